@@ -1,0 +1,13 @@
+//! What a proxy meets outside itself: where bytes come from and go to, and the link between the two sides,
+//! with forms in memory and thin adapters over the standard library.
+#![tactic(auto)]
+
+mod kinds;
+mod link_stores;
+mod sinks;
+mod sources;
+
+pub use kinds::{Direction, HandleKind, Side};
+pub use link_stores::LinkStore;
+pub use sinks::{Failed, Sink};
+pub use sources::{Source, Taken};
