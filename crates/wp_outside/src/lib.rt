@@ -4,10 +4,17 @@
 
 mod kinds;
 mod link_stores;
+mod memory_sinks;
+mod memory_sources;
+mod plans;
+mod rests;
+mod rooms;
 mod sinks;
 mod sources;
 
 pub use kinds::{Direction, HandleKind, Side};
 pub use link_stores::LinkStore;
+pub use memory_sinks::MemorySink;
+pub use memory_sources::{CleanSource, MemorySource};
 pub use sinks::{Failed, Sink};
 pub use sources::{Source, Taken};
