@@ -1,4 +1,5 @@
 pub mod Counts
 pub mod Pieces
 pub mod Lines
+pub mod Kept
 pub mod MemoryForms

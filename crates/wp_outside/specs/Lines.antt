@@ -1,7 +1,7 @@
 -- The connections of a link as plain data: what was pushed, what was pulled and what waits in each
 -- direction, and what each call changes. This project's own: the Wayland standard knows one stream
 -- of bytes in each direction, which this keeps per connection.
-use Rattle.std.specs.Prelude.{◌≡◌, ◌≢◌, ℕ, ◌+◌, Bool, true, false, List, [], ◌++◌, length, take, drop, slice_set}
+use Rattle.std.specs.Prelude.{◌≡◌, ◌≢◌, ℕ, Bool, true, false, List, [], ◌++◌, take, drop, slice_set}
 use Rattle.wp_outside.specs.declared.kinds.Direction.{Direction}
 use Rattle.wp_outside.specs.declared.kinds.Direction.TheVariants.{Up, Down}
 
@@ -41,20 +41,29 @@ abbrev pub change_lane : Direction → (Lane → Lane) → Line → Line
 change_lane Up change line = record line { up = change line.up }
 change_lane Down change line = record line { down = change line.down }
 
+-- bytes pushed at the end of a lane
+abbrev pub lane_with_pushed : List ℕ → Lane → Lane
+lane_with_pushed bytes lane = record lane { pushed = lane.pushed ++ bytes; waiting = lane.waiting ++ bytes }
+
+-- the first n waiting bytes of a lane pulled
+abbrev pub lane_with_pulled : ℕ → Lane → Lane
+lane_with_pulled n lane = record lane { pulled = lane.pulled ++ take n lane.waiting; waiting = drop n lane.waiting }
+
+-- one waiting byte of a lane replaced, and the lane marked
+abbrev pub lane_with_spoiled : ℕ → ℕ → Lane → Lane
+lane_with_spoiled offset byte lane = record lane { waiting = slice_set lane.waiting offset byte; was_spoiled = true }
+
 -- bytes pushed at the end of one direction
 abbrev pub pushed_onto : Direction → List ℕ → Line → Line
-pushed_onto direction bytes =
-    change_lane direction (λ lane. record lane { pushed = lane.pushed ++ bytes; waiting = lane.waiting ++ bytes })
+pushed_onto direction bytes = change_lane direction (lane_with_pushed bytes)
 
 -- the first n waiting bytes of one direction pulled
 abbrev pub pulled_from : Direction → ℕ → Line → Line
-pulled_from direction n =
-    change_lane direction (λ lane. record lane { pulled = lane.pulled ++ take n lane.waiting; waiting = drop n lane.waiting })
+pulled_from direction n = change_lane direction (lane_with_pulled n)
 
 -- one waiting byte of one direction replaced, and the lane marked
 abbrev pub spoiled_at : Direction → ℕ → ℕ → Line → Line
-spoiled_at direction offset byte =
-    change_lane direction (λ lane. record lane { waiting = slice_set lane.waiting offset byte; was_spoiled = true })
+spoiled_at direction offset byte = change_lane direction (lane_with_spoiled offset byte)
 
 -- the connection closed, and what waited dropped
 abbrev pub cut_line : Line → Line
@@ -82,7 +91,6 @@ IsFront front whole = (rest : List ℕ) × (front ++ rest ≡ whole)
 pub record IsHonestLane (is_up : Bool) (lane : Lane) : Type 0 where
   pub front : lane.was_spoiled ≡ false → IsFront lane.pulled lane.pushed
   pub whole : is_up ≡ true → lane.was_spoiled ≡ false → lane.pulled ++ lane.waiting ≡ lane.pushed
-  pub counted : is_up ≡ true → length lane.pulled + length lane.waiting ≡ length lane.pushed
   pub dropped : is_up ≡ false → lane.waiting ≡ []
 
 -- what holds of every connection

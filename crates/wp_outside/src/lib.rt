@@ -11,6 +11,8 @@ mod rests;
 mod rooms;
 mod sinks;
 mod sources;
+mod stored_lanes;
+mod stored_lines;
 
 pub use kinds::{Direction, HandleKind, Side};
 pub use link_stores::LinkStore;
