@@ -3,6 +3,7 @@
 #![tactic(auto)]
 
 mod kinds;
+mod line_stores;
 mod link_stores;
 mod memory_sinks;
 mod memory_sources;
@@ -15,6 +16,7 @@ mod stored_lanes;
 mod stored_lines;
 
 pub use kinds::{Direction, HandleKind, Side};
+pub use line_stores::LineStore;
 pub use link_stores::LinkStore;
 pub use memory_sinks::MemorySink;
 pub use memory_sources::{CleanSource, MemorySource};
