@@ -12,6 +12,7 @@ mod rests;
 mod rooms;
 mod sinks;
 mod sources;
+mod std_adapters;
 mod stored_lanes;
 mod stored_lines;
 
@@ -21,4 +22,5 @@ pub use link_stores::LinkStore;
 pub use memory_sinks::MemorySink;
 pub use memory_sources::{CleanSource, MemorySource};
 pub use sinks::{Failed, Sink};
+pub use std_adapters::{StdSink, StdSource};
 pub use sources::{Source, Taken};
