@@ -1,5 +1,5 @@
--- Laws of sets of blocks: which sets the lists of runs stand for, and that each set has one list.
-use Rattle.std.specs.Prelude.{◌≡◌, ℕ, zero, suc, ◌+◌, ◌≤◌, Bool, true, ◌&&◌, List, [], ◌∷◌, nat_lt}
+-- Laws of sets of blocks: each set has one list of runs, and what its hull is.
+use Rattle.std.specs.Prelude.{◌≡◌, ℕ, zero, suc, ◌+◌, ◌≤◌, Bool, true, ◌&&◌, List, [], ◌∷◌, nat_lt, ◌↔◌}
 use Rattle.std.specs.List.{filter}
 use Rattle.block_intervals.specs.declared.run.Run.{Run}
 use Rattle.block_intervals.specs.Sets.{has, Rises, hull_of, runs_of}
@@ -9,15 +9,23 @@ abbrev pub counted : ℕ → ℕ → List ℕ
 counted from zero = []
 counted from (suc count) = from ∷ counted (from + 1) count
 
--- two rising lists of runs with the same blocks are the same list
+-- two rising lists of runs with the same blocks are one list
 abbrev pub RunsAreUnique : Type 0
-RunsAreUnique = (some other : List Run) → Rises some → Rises other → ((block : ℕ) → has block some ≡ has block other) → some ≡ other
+RunsAreUnique = (these those : List Run) → Rises these → Rises those → ((block : ℕ) → has block these ≡ has block those) → these ≡ those
 
--- rising runs that have just the blocks below `count` which the test accepts are the runs of the blocks that it accepts
+-- rising runs that have just the blocks below `count` which a test accepts are the runs of the blocks that it accepts
 abbrev pub RunsOfAccepted : Type 0
 RunsOfAccepted = (runs : List Run) (test : ℕ → Bool) (count : ℕ) → Rises runs → ((block : ℕ) → has block runs ≡ (nat_lt block count && test block)) → runs ≡ runs_of (filter test (counted 0 count))
 
--- a block is in the hull where some block of the set is not above it, and some is not below it
+-- the block has one of the set at or below it, and one at or above it
+pub record IsBetween (runs : List Run) (block : ℕ) : Type 0 where
+  pub low : ℕ
+  pub high : ℕ
+  pub has_low : has low runs ≡ true
+  pub has_high : has high runs ≡ true
+  pub above : low ≤ block
+  pub below : block ≤ high
+
+-- the hull has just these blocks
 abbrev pub HullIsBetween : Type 0
-HullIsBetween = (runs : List Run) (block : ℕ) → Rises runs → (has block (hull_of runs) ≡ true → (low : ℕ) × (high : ℕ) × (has low runs ≡ true) × (has high runs ≡ true) × (low ≤ block) × (block ≤ high))
-    × ((low high : ℕ) → has low runs ≡ true → has high runs ≡ true → low ≤ block → block ≤ high → has block (hull_of runs) ≡ true)
+HullIsBetween = (runs : List Run) (block : ℕ) → Rises runs → (has block (hull_of runs) ≡ true) ↔ IsBetween runs block

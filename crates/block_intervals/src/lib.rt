@@ -2,8 +2,10 @@
 #![tactic(auto)]
 
 mod blocks;
+mod laws;
 mod places;
 mod run;
 
 pub use blocks::Blocks;
+pub use laws::{has_hull, has_runs_of, runs_are_unique};
 pub use run::Run;
