@@ -3,9 +3,9 @@
 -- Two rising lists with the same blocks begin with the same block, the least; their first runs end together, since the
 -- block after a run is left out; what follows has the same blocks again. The runs of an ascending list of blocks rise
 -- and have just its blocks, so they are the runs of any set with the same blocks.
-use Rattle.std.proofs.Common.{◌≡◌, ℕ, zero, suc, ◌+◌, ◌-◌, ◌<◌, ◌≤◌, Bool, true, false, ◌&&◌, ◌||◌, List, [], ◌∷◌, ◌++◌, length, leb, ltb, eqb, cond, refl, sym, ap, ◌∙◌, arith, subst, ⊎_elim, ◌↔◌, ◌⊎◌, inl, inr}
+use Rattle.std.proofs.Common.{◌≡◌, ℕ, zero, suc, ◌+◌, ◌-◌, ◌<◌, ◌≤◌, Bool, true, false, ◌&&◌, ◌||◌, List, [], ◌∷◌, ltb, eqb, refl, sym, ap, ◌∙◌, arith, subst, ⊎_elim, ◌⊎◌, inl, inr}
 use Rattle.std.specs.List.{filter}
-use Rattle.std.proofs.lemmas.Bool.{false≢true, true≢false, cases_lt, cases_eq, cases_order, cond_both, or_cases, or_left, or_right, false_from_ne_true, eqb-true, eqb-false, eq-eqb, ne_eqb}
+use Rattle.std.proofs.lemmas.Bool.{false≢true, true≢false, cases_lt, cases_eq, cases_order, cond_both, or_cases, or_left, or_right, eqb-true, eqb-false, eq-eqb, ne_eqb}
 use Rattle.std.proofs.lemmas.Bool.Decides.{nat_tests}
 use Rattle.block_intervals.specs.declared.run.Run.{Run}
 use Rattle.block_intervals.specs.Sets.{has, lies_within, RisesFrom, Rises, hull_of, last_end, with_before, runs_of}

@@ -2,7 +2,7 @@
 --
 -- The runs are cut into those before the new one, those that it touches and those after it. The touched ones and
 -- the new one make one run, by taking them in one after another: each overlaps or adjoins what was taken in so far.
-use Rattle.std.proofs.Common.{◌≡◌, ℕ, zero, suc, ◌+◌, ◌-◌, ◌<◌, ◌≤◌, Bool, true, false, ◌&&◌, ◌||◌, List, [], ◌∷◌, ◌++◌, length, get_or, take, drop, min, max, refl, sym, ap, ◌∙◌, arith, subst, ⊎_elim}
+use Rattle.std.proofs.Common.{◌≡◌, ℕ, suc, ◌+◌, ◌-◌, ◌<◌, ◌≤◌, Bool, true, false, ◌||◌, List, [], ◌∷◌, ◌++◌, length, get_or, take, drop, refl, sym, ap, ◌∙◌, arith, subst, ⊎_elim}
 use Rattle.std.specs.List.{All, AllWithin, fold}
 use Rattle.std.proofs.lemmas.Bool.Decides.{nat_tests}
 use Rattle.std.proofs.lemmas.List.{take-append-drop, drop-drop, length-take, get_or-take, get_or-drop, length-drop, get_or_default}
@@ -33,8 +33,8 @@ rises-spanned low s (m ∷ ms) after from some h all =
     let rest : RisesFrom (m.end + 1) (ms ++ after) = h.2 in
     rises-spanned low (spanning s m) ms after (omega arith) (omega arith) (rises-rest low (m ∷ []) (ms ++ after) h)
     (λ k d l. let t : s.end < (get_or after k d).first = all k d l in
-     let u : m.end + 1 ≤ (get_or after k d).first = rises-firsts (m.end + 1) after (rises-rest (m.end + 1) ms after rest) k d l in
-     omega arith)
+    let u : m.end + 1 ≤ (get_or after k d).first = rises-firsts (m.end + 1) after (rises-rest (m.end + 1) ms after rest) k d l in
+    omega arith)
 
 pub rises-placed : (low : ℕ) (s : Run) (before ms after : List Run) → low ≤ s.first → s.first < s.end → RisesFrom low (before ++ (ms ++ after)) → All (IsBefore s) before → All (IsAfter s) after → RisesFrom low (before ++ fold spanning s ms ∷ after)
 rises-placed low s [] ms after from some h first all = rises-spanned low s ms after from some h all
@@ -102,8 +102,8 @@ touched-none runs new e h some above = record {
   order = omega arith;
   within = omega arith;
   before = λ k d low l.
-  let here : (get_or runs k e).end ≤ (get_or runs (length runs - 1) e).end = ends-rise 0 runs h k (length runs - 1) e (omega arith) (omega arith) in
-  subst (λ (r : Run). r.end < new.first) (get_or_default runs k e d l) (omega arith);
+      let here : (get_or runs k e).end ≤ (get_or runs (length runs - 1) e).end = ends-rise 0 runs h k (length runs - 1) e (omega arith) (omega arith) in
+      subst (λ (r : Run). r.end < new.first) (get_or_default runs k e d l) (omega arith);
   between = λ k d low l. absurd (omega arith);
   after = λ k d low l. absurd (omega arith);
 }
@@ -114,14 +114,14 @@ touched-last runs new e h some wide ends begins = record {
   order = omega arith;
   within = omega arith;
   before = λ k d low l.
-  let in_list : k < length runs = omega arith in
-  let next : (get_or runs k e).end < (get_or runs (suc k) e).first = rises-next 0 runs h k e (omega arith) in
-  let rise : (get_or runs (suc k) e).first ≤ (get_or runs (length runs - 1) e).first = firsts-rise 0 runs h (suc k) (length runs - 1) e (omega arith) (omega arith) in
-  subst (λ (r : Run). r.end < new.first) (get_or_default runs k e d in_list) (omega arith);
+      let in_list : k < length runs = omega arith in
+      let next : (get_or runs k e).end < (get_or runs (suc k) e).first = rises-next 0 runs h k e (omega arith) in
+      let rise : (get_or runs (suc k) e).first ≤ (get_or runs (length runs - 1) e).first = firsts-rise 0 runs h (suc k) (length runs - 1) e (omega arith) (omega arith) in
+      subst (λ (r : Run). r.end < new.first) (get_or_default runs k e d in_list) (omega arith);
   between = λ k d low l.
-  let at : length runs - 1 ≡ k = omega arith in
-  let P : Run → Type 0 = λ r. Touches new r in
-  subst P (get_or_default runs k e d (omega arith)) (subst (λ (n : ℕ). Touches new (get_or runs n e)) at (ends, omega arith));
+      let at : length runs - 1 ≡ k = omega arith in
+      let P : Run → Type 0 = λ r. Touches new r in
+      subst P (get_or_default runs k e d (omega arith)) (subst (λ (n : ℕ). Touches new (get_or runs n e)) at (ends, omega arith));
   after = λ k d low l. absurd (omega arith);
 }
 

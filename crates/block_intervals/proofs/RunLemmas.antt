@@ -1,6 +1,6 @@
 -- Lemmas on ascending runs: what their order says of each run, and of the blocks that they have.
-use Rattle.std.proofs.Common.{◌≡◌, ℕ, zero, suc, ◌+◌, ◌-◌, ◌<◌, ◌≤◌, Bool, true, false, ◌&&◌, ◌||◌, List, [], ◌∷◌, ◌++◌, length, get_or, take, drop, refl, sym, ap, ◌∙◌, cond, arith, add-one, subst}
-use Rattle.std.specs.List.{All, AllWithin}
+use Rattle.std.proofs.Common.{◌≡◌, ℕ, zero, suc, ◌+◌, ◌<◌, ◌≤◌, Bool, true, false, ◌||◌, List, [], ◌∷◌, ◌++◌, length, get_or, refl, sym, ap, ◌∙◌, arith, add-one}
+use Rattle.std.specs.List.{All}
 use Rattle.std.specs.List.Sorted.{IsNonDecreasingBy}
 use Rattle.std.proofs.lemmas.List.Sorted.{IsNonDecreasingBy-from_all_adjacent}
 use Rattle.std.proofs.lemmas.Bool.Decides.{nat_tests}
@@ -49,17 +49,17 @@ pub firsts-rise : (low : ℕ) (xs : List Run) → RisesFrom low xs → IsNonDecr
 firsts-rise low xs h =
     IsNonDecreasingBy-from_all_adjacent (λ r. r.first) xs
     (λ k d l. let l' : suc k < length xs = omega arith in
-     let here : (get_or xs k d).first < (get_or xs k d).end = rises-each low xs h k d (omega arith) in
-     let next : (get_or xs k d).end < (get_or xs (suc k) d).first = rises-next low xs h k d l' in
-     rw (add-one k) (omega arith))
+    let here : (get_or xs k d).first < (get_or xs k d).end = rises-each low xs h k d (omega arith) in
+    let next : (get_or xs k d).end < (get_or xs (suc k) d).first = rises-next low xs h k d l' in
+    rw (add-one k) (omega arith))
 
 pub ends-rise : (low : ℕ) (xs : List Run) → RisesFrom low xs → IsNonDecreasingBy (λ r. r.end) xs
 ends-rise low xs h =
     IsNonDecreasingBy-from_all_adjacent (λ r. r.end) xs
     (λ k d l. let l' : suc k < length xs = omega arith in
-     let there : (get_or xs (suc k) d).first < (get_or xs (suc k) d).end = rises-each low xs h (suc k) d l' in
-     let next : (get_or xs k d).end < (get_or xs (suc k) d).first = rises-next low xs h k d l' in
-     rw (add-one k) (omega arith))
+    let there : (get_or xs (suc k) d).first < (get_or xs (suc k) d).end = rises-each low xs h (suc k) d l' in
+    let next : (get_or xs k d).end < (get_or xs (suc k) d).first = rises-next low xs h k d l' in
+    rw (add-one k) (omega arith))
 
 -- runs that begin at a block or later begin at a lower one or later
 pub rises-lower : (high low : ℕ) (xs : List Run) → low ≤ high → RisesFrom high xs → RisesFrom low xs

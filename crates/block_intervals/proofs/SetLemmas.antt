@@ -1,19 +1,18 @@
 -- What a look-up, a hull and a merge owe.
-use Rattle.std.proofs.Common.{◌≡◌, ℕ, zero, suc, ◌+◌, ◌-◌, ◌<◌, ◌≤◌, Bool, true, false, ◌&&◌, ◌||◌, List, [], ◌∷◌, ◌++◌, length, get_or, set, take, drop, leb, refl, sym, ap, ◌∙◌, arith, subst}
-use Rattle.std.specs.List.{All, AllWithin}
-use Rattle.std.proofs.lemmas.Bool.{cases_Bool, leb-true, leb-false}
+use Rattle.std.proofs.Common.{◌≡◌, ℕ, suc, ◌+◌, ◌-◌, ◌<◌, ◌≤◌, false, ◌||◌, List, [], ◌∷◌, ◌++◌, length, get_or, set, take, drop, leb, refl, sym, ap, ◌∙◌, arith, subst}
+use Rattle.std.specs.List.{AllWithin}
 use Rattle.std.proofs.lemmas.Bool.Decides.{nat_tests}
-use Rattle.std.proofs.lemmas.List.{take-append-drop, drop_more, take_all, drop_all, length-take, get_or-take, get_or_read}
+use Rattle.std.proofs.lemmas.List.{take-append-drop, drop_more, take_all, length-take, get_or-take, get_or_read}
 use Rattle.block_intervals.specs.declared.run.Run.{Run}
 use Rattle.block_intervals.specs.Sets.{has, lies_within, RisesFrom, Rises, hull_of, last_end}
-use Rattle.block_intervals.proofs.RunLemmas.{or_assoc, or_comm, has-append, has-below, has-above, rises-rest, rises-lower}
+use Rattle.block_intervals.proofs.RunLemmas.{or_assoc, or_comm, has-append, has-below, has-above, rises-rest}
 
 -- the front of the runs that end at a block or before does not have it
 pub front-has-not : (runs : List Run) (b at : ℕ) → AllWithin (λ r. r.end ≤ b) runs 0 at → has b (take at runs) ≡ false
 front-has-not runs b at before =
     has-above b (take at runs)
     (λ k d l. let short : k < at = omega (arith, length-take at runs) in
-     subst (λ (r : Run). r.end ≤ b) (sym (get_or-take at runs k d short)) (before k d (omega arith) short))
+    subst (λ (r : Run). r.end ≤ b) (sym (get_or-take at runs k d short)) (before k d (omega arith) short))
 
 pub lies-before : (first end b : ℕ) → b < end → lies_within first end b ≡ leb first b
 lies-before first end b l = grind (arith, nat_tests)
@@ -22,7 +21,7 @@ lies-before first end b l = grind (arith, nat_tests)
 pub has-at : (runs : List Run) (b at : ℕ) (x d : Run) → Rises runs → at < length runs → get_or runs at d ≡ x → AllWithin (λ r. r.end ≤ b) runs 0 at → b < x.end → leb x.first b ≡ has b runs
 has-at runs b at x d h l is before ends =
     let split : runs ≡ take at runs ++ x ∷ drop (at + 1) runs =
-        sym (take-append-drop at runs) ∙ ap (λ t. take at runs ++ t) (drop_more runs at d l ∙ ap (λ (t : Run). t ∷ drop (at + 1) runs) is) in
+    sym (take-append-drop at runs) ∙ ap (λ t. take at runs ++ t) (drop_more runs at d l ∙ ap (λ (t : Run). t ∷ drop (at + 1) runs) is) in
     let whole : has b runs ≡ (has b (take at runs) || has b (x ∷ drop (at + 1) runs)) = ap (has b) split ∙ has-append b (take at runs) (x ∷ drop (at + 1) runs) in
     let rest : RisesFrom 0 (x ∷ drop (at + 1) runs) = rises-rest 0 (take at runs) (x ∷ drop (at + 1) runs) (subst (λ (xs : List Run). RisesFrom 0 xs) split h) in
     let above : has b (drop (at + 1) runs) ≡ false = has-below (x.end + 1) b (drop (at + 1) runs) rest.2 (omega arith) in

@@ -1,6 +1,6 @@
 -- How a run lies to another: before it, after it, or so that both together are one run.
 use Rattle.std.specs.Prelude.{ℕ, ◌<◌, ◌≤◌, List, min, max, length}
-use Rattle.std.specs.List.{fold, AllWithin}
+use Rattle.std.specs.List.{AllWithin}
 use Rattle.block_intervals.specs.declared.run.Run.{Run}
 
 -- `run` ends before `new` begins, and at least one block is between them

@@ -5,6 +5,8 @@ mod blocks;
 mod laws;
 mod places;
 mod run;
+#[cfg(test)]
+mod tests;
 
 pub use blocks::Blocks;
 pub use laws::{has_hull, has_runs_of, runs_are_unique};

@@ -1,4 +1,4 @@
-use Rattle.std.proofs.Common.{sym, arith, ap, ◌∙◌, ◌≡◌, ◌<◌, ◌≤◌, ℕ, length, get_or, subst}
+use Rattle.std.proofs.Common.{sym, arith, ap, ◌∙◌, ◌<◌, ◌≤◌, length, subst}
 use Rattle.std.specs.List.{AllWithin}
 use Rattle.std.proofs.lemmas.Bool.{le-ltb}
 use Rattle.block_intervals.specs.declared.run.Run.{Run}

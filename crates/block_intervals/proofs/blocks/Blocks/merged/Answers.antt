@@ -1,5 +1,4 @@
-use Rattle.std.proofs.Common.{sym, arith, ap, ◌∙◌, ◌≡◌, ◌<◌, ◌-◌, ℕ, List, length, get_or, set, take, subst}
-use Rattle.block_intervals.specs.declared.run.Run.{Run}
+use Rattle.std.proofs.Common.{arith}
 use Rattle.block_intervals.proofs.RunLemmas.{rises-each}
 use Rattle.block_intervals.proofs.blocks.Blocks.merged.Goals as goal
 

@@ -6,7 +6,7 @@ abbrev pub invariant-loop-at : goal.invariant-loop-at
 invariant-loop-at l = record {
   at_in : l.at ≤ length l.mine;
   other_in : l.other_at ≤ length l.others;
-  parts : (b : ℕ) → (has b l.both || (has b (drop l.at l.mine) || has b (drop l.other_at l.others))) ≡ (has b l.mine || has b l.others)
+  parts : (b : ℕ) → (has b l.both || (has b (drop l.at l.mine) || has b (drop l.other_at l.others))) ≡ (has b l.mine || has b l.others);
 }
 
 -- how many runs are still to be taken
