@@ -1,0 +1,5 @@
+pub mod NumberLaws
+pub mod RidLaws
+pub mod BodyLaws
+pub mod FrameLaws
+pub mod Decoded
