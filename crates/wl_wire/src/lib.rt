@@ -1,0 +1,16 @@
+//! Bytes of the Wayland protocol: lists of bytes, messages, and the reader that cuts a stream into messages.
+#![tactic(auto)]
+
+mod byte_list;
+mod faults;
+mod handle_list;
+mod message;
+mod message_list;
+mod text_list;
+
+pub use byte_list::{Bytes, append_reserved};
+pub use faults::{MessageFault, ObjectFault, WireFault};
+pub use handle_list::HandleNumbers;
+pub use message::Message;
+pub use message_list::MessageList;
+pub use text_list::Text;
