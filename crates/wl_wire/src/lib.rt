@@ -4,6 +4,7 @@
 mod byte_list;
 mod faults;
 mod handle_list;
+mod laws;
 mod message;
 mod message_list;
 mod text_list;
@@ -11,6 +12,7 @@ mod text_list;
 pub use byte_list::{Bytes, append_reserved};
 pub use faults::{MessageFault, ObjectFault, WireFault};
 pub use handle_list::HandleNumbers;
+pub use laws::{cut_by_parts, cut_is_unique, fault_stays, front_is_decided, joined_is_cut};
 pub use message::Message;
 pub use message_list::MessageList;
 pub use text_list::Text;
