@@ -3,7 +3,7 @@ use Rattle.std.proofs.Common.{◌≡◌, ℕ, zero, suc, ◌≤◌, inl, inr, Li
 use Rattle.std.proofs.lemmas.List.{drop_at}
 use Rattle.std.proofs.lemmas.List.Elements.{All-nil, All-cons, All-head, All-tail}
 use Rattle.wl_wire.specs.Wire.{joined, first, IsMessage, Stops, Cuts, if_message, cut_within, cut, cut_rest}
-use Rattle.wl_wire.proofs.Front.{front-cases, first-message, stops-waits, stops-fault}
+use Rattle.wl_wire.proofs.FrontLemmas.{front-cases, first-message, stops-waits, stops-fault}
 
 -- one step of the count
 pub within-message : (most : ℕ) (bytes m : List ℕ) → first bytes ≡ Ok (Some m) → cut_within (suc most) bytes ≡ m ∷ cut_within most (drop (length m) bytes)

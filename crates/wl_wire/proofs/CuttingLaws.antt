@@ -1,10 +1,10 @@
 -- The laws of the cut, from the relation by cases.
-use Rattle.std.proofs.Common.{◌≡◌, ℕ, List, [], ◌∷◌, ◌++◌, length, drop, Option, Some, Result, Ok, Err, subst, refl, ap, ◌∙◌}
+use Rattle.std.proofs.Common.{◌≡◌, ℕ, List, [], ◌∷◌, ◌++◌, length, take, drop, Option, Some, None, Result, Ok, Err, subst, refl, sym, ap, ◌∙◌, take-append-drop}
 use Rattle.std.proofs.lemmas.List.{append-nil}
 use Rattle.wl_wire.specs.declared.faults.WireFault.{WireFault}
-use Rattle.wl_wire.specs.Wire.{joined, first, Cuts, cut, cut_rest, fault_in}
+use Rattle.wl_wire.specs.Wire.{joined, first, IsMessage, Cuts, cut, cut_rest, fault_in}
 use Rattle.wl_wire.specs.WireLaws.{FirstWaits, FirstFaults, FirstGives, CutAgrees, CutJoins, CutStops, CutMessage, CutNothing, CutGoesOn, CutAppends, JoinedCuts, CutFaultStays}
-use Rattle.wl_wire.proofs.Front.{waits-found, faulty-found, begins-found, found-waits, found-fault, first-message, first-fault-stays, stops-fault}
+use Rattle.wl_wire.proofs.FrontLemmas.{waits-found, faulty-found, begins-found, found-waits, found-fault, first-message, first-fault-stays, stops-waits, stops-fault}
 use Rattle.wl_wire.proofs.Cutting.{cut-cuts, cuts-cut, cuts-joined, cuts-messages, cuts-stops, cuts-append, messages-cut}
 
 pub first-waits : FirstWaits
@@ -71,3 +71,15 @@ cut-fault-stays front more fault e =
       rest,
       ap (λ it. fault_in (first it)) rest ∙ ap fault_in stays,
     )
+
+-- how the rest goes on behind what stands in front
+pub rest-waits : (bytes : List ℕ) → first bytes ≡ Ok None → cut_rest bytes ≡ bytes
+rest-waits bytes e = (cut-nothing bytes (stops-waits bytes e)).1
+
+pub rest-fault : (bytes : List ℕ) (fault : WireFault) → first bytes ≡ Err fault → cut_rest bytes ≡ bytes
+rest-fault bytes fault e = (cut-nothing bytes (stops-fault bytes fault e)).1
+
+pub rest-message : (bytes : List ℕ) (size : ℕ) → first bytes ≡ Ok (Some (take size bytes)) → cut_rest (drop size bytes) ≡ cut_rest bytes
+rest-message bytes size e =
+    let whole : IsMessage (take size bytes) = (begins-found bytes (take size bytes) e).is_message in
+    sym (cut-message (take size bytes) (drop size bytes) whole).1 ∙ ap cut_rest (take-append-drop size bytes)

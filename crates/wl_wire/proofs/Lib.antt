@@ -1,3 +1,3 @@
-pub mod Front
+pub mod FrontLemmas
 pub mod Cutting
 pub mod CuttingLaws

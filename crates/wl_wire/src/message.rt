@@ -25,6 +25,14 @@ impl Model for Message {
 }
 
 impl Message {
+    // The message of bytes that are one.
+    pub(crate) fn from_whole(bytes: Bytes) -> Message
+        requires { IsMessage bytes }
+        ensures { result ≡ bytes }
+    {
+        Message { bytes }
+    }
+
     /// The id of the object that the message is for: the first word of the header.
     pub fn object(&self) -> u32
         ensures { result ≡ object_of self.now }

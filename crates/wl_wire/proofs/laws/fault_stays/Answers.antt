@@ -1,5 +1,5 @@
 use Rattle.wl_wire.proofs.CuttingLaws.{cut-fault-stays}
-use Rattle.wl_wire.proofs.Front.{first-fault-stays}
+use Rattle.wl_wire.proofs.FrontLemmas.{first-fault-stays}
 use Rattle.wl_wire.proofs.laws.fault_stays.Goals as goal
 
 pub returns-clause-front : goal.returns-clause-front
