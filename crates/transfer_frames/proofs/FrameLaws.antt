@@ -215,11 +215,11 @@ spelled_by bytes t fits least most named whole none =
     let same_word : first_word (value t (body_in bytes)) ≡ word_of bytes = omega (arith, same_size, same_type) in
     let zeros : padding_in bytes ≡ padding (value t (body_in bytes)) = zeros_from (padding_in bytes) tests.1 ∙ ap (λ (k : ℕ). replicate k 0) (omega (arith, length-drop (size_in (word_of bytes)) bytes, same_size)) in
     let parts : word_bytes (first_word (value t (body_in bytes))) ++ (body (value t (body_in bytes)) ++ padding (value t (body_in bytes))) ≡ bytes =
-        ap (λ (w : ℕ). word_bytes w ++ (body frame ++ padding frame)) same_word
-        ∙ ap (λ (x : List ℕ). word_bytes (word_of bytes) ++ (x ++ padding frame)) same_body
-        ∙ ap (λ (x : List ℕ). word_bytes (word_of bytes) ++ (body_in bytes ++ x)) (sym zeros)
-        ∙ ap (λ (x : List ℕ). word_bytes (word_of bytes) ++ x) (whole_body bytes (size_in (word_of bytes)) least within)
-        ∙ word_parts bytes (omega arith) fits in
+    ap (λ (w : ℕ). word_bytes w ++ (body frame ++ padding frame)) same_word
+    ∙ ap (λ (x : List ℕ). word_bytes (word_of bytes) ++ (x ++ padding frame)) same_body
+    ∙ ap (λ (x : List ℕ). word_bytes (word_of bytes) ++ (body_in bytes ++ x)) (sym zeros)
+    ∙ ap (λ (x : List ℕ). word_bytes (word_of bytes) ++ x) (whole_body bytes (size_in (word_of bytes)) least within)
+    ∙ word_parts bytes (omega arith) fits in
     (record { fields = fields-value t (body_in bytes) b_fits tests.0; fits = omega arith }, sym parts)
 
 pub found : (bytes : List ℕ) → IsBytes bytes → length bytes ≡ frame_length (word_of bytes) → first_fault bytes ≡ None → Found bytes

@@ -3,3 +3,4 @@ pub mod RidLaws
 pub mod BodyLaws
 pub mod FrameLaws
 pub mod Decoded
+pub mod FrontLaws

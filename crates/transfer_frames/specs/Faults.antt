@@ -30,10 +30,10 @@ frame_length word = padded (size_in word)
 -- the first cause that the first word shows
 unfoldable pub word_fault : ℕ → Option FrameCause
 word_fault word = first_of (
-  (nat_lt (size_in word) 4, SizeSmall) ∷
-  (nat_lt MOST (size_in word), SizeLarge) ∷
-  (nat_lt 18 (type_in word), UnknownType) ∷
-  (is_none (type_at (type_in word)), LeftOut (type_in word)) ∷ [])
+    (nat_lt (size_in word) 4, SizeSmall) ∷
+    (nat_lt MOST (size_in word), SizeLarge) ∷
+    (nat_lt 18 (type_in word), UnknownType) ∷
+    (is_none (type_at (type_in word)), LeftOut (type_in word)) ∷ [])
 
 -- ---- the body of a type
 
@@ -64,8 +64,8 @@ has_zero_rid type body = word_of body == 0
 -- whether the range of a FILL has whole blocks, as many bytes as follow it
 abbrev pub has_range : FrameType → List ℕ → Bool
 has_range Fill body =
-  (word_of (drop 4 body) % 64 == 0) && (word_of (drop 8 body) % 64 == 0)
-  && (word_of (drop 8 body) == word_of (drop 4 body) + (length body - 12))
+    (word_of (drop 4 body) % 64 == 0) && (word_of (drop 8 body) % 64 == 0)
+    && (word_of (drop 8 body) == word_of (drop 4 body) + (length body - 12))
 has_range type body = true
 
 -- whether the body of a PROTOCOL is a row of whole messages
@@ -76,11 +76,11 @@ has_messages type body = true
 -- the first cause that a body and a padding show
 unfoldable pub body_fault : FrameType → List ℕ → List ℕ → Option FrameCause
 body_fault type body padding = first_of (
-  (not (has_length type (length body)), BodyLength) ∷
-  (not (list_all (λ b. b == 0) padding), Padding) ∷
-  (has_zero_rid type body, RidZero) ∷
-  (not (has_range type body), FillRange) ∷
-  (not (has_messages type body), MessageCut) ∷ [])
+    (not (has_length type (length body)), BodyLength) ∷
+    (not (list_all (λ b. b == 0) padding), Padding) ∷
+    (has_zero_rid type body, RidZero) ∷
+    (not (has_range type body), FillRange) ∷
+    (not (has_messages type body), MessageCut) ∷ [])
 
 -- ---- all of it
 

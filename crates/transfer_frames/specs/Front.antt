@@ -1,5 +1,5 @@
 -- What stands at the front of a stream of bytes: a frame, the beginning of one, or a fault.
-use Rattle.std.specs.Prelude.{◌≡◌, ◌≢◌, ℕ, nat_lt, if◌then◌else◌, List, [], length, take, drop, Option, Some, None, Result, Ok, Err, map}
+use Rattle.std.specs.Prelude.{◌≡◌, ◌≢◌, ℕ, ◌≤◌, nat_lt, if◌then◌else◌, List, [], length, take, drop, Option, Some, None, Result, Ok, Err, map}
 use Rattle.transfer_frames.specs.declared.frame.Frame.{Frame}
 use Rattle.transfer_frames.specs.declared.frame.Frame.TheVariants as frames
 use Rattle.transfer_frames.specs.declared.cause.FrameCause.{FrameCause}
@@ -9,7 +9,7 @@ use Rattle.transfer_frames.specs.declared.kinds.FrameType.{FrameType}
 use Rattle.transfer_frames.specs.declared.kinds.FrameType.TheVariants.{Protocol, Inject, OpenFile, ExtendFile, Fill, OpenPipe, PipeTransfer, PipeShutR, PipeShutW, Ack, Restart, Close}
 use Rattle.std.specs.Int.{w32, cast_signed}
 use Rattle.transfer_frames.specs.Numbers.{word_of, long_of, rid_of, words_of}
-use Rattle.transfer_frames.specs.Grammar.{type_at, spelling}
+use Rattle.transfer_frames.specs.Grammar.{type_at, spelling, IsFrame}
 use Rattle.transfer_frames.specs.Faults.{type_in, frame_length, word_fault, body_in, first_fault}
 
 -- the frame of a type whose body these bytes are
@@ -43,23 +43,27 @@ unless (Some cause) read = Err cause
 -- the first bytes of a stream: a whole frame, none so far, or the cause that stands there
 unfoldable pub front : List ℕ → Result (Option Frame) FrameCause
 front bytes =
-  if nat_lt (length bytes) 4 then Ok None else
-  unless (word_fault (word_of bytes)) (
+    if nat_lt (length bytes) 4 then Ok None else
+    unless (word_fault (word_of bytes)) (
     let whole = take (frame_length (word_of bytes)) bytes in
     if nat_lt (length bytes) (frame_length (word_of bytes)) then Ok None else
     unless (first_fault whole) (Ok (frame_in whole)))
 
--- what a decoder answers is the frame that is spelled or the first fault; want of memory says nothing
-abbrev pub Decodes : Result Frame DecodeFault → Option FrameCause → Type 0
-Decodes (Ok frame) fault = fault ≡ None
-Decodes (Err (faults.Frame cause)) fault = fault ≡ Some cause
-Decodes (Err faults.Memory) fault = Unit {0}
-
--- likewise for what is read from a stream
+-- what is read from a stream is what stands at its front; want of memory says nothing
 abbrev pub Answers : Result (Option Frame) DecodeFault → Result (Option Frame) FrameCause → Type 0
 Answers (Ok frame) read = read ≡ Ok frame
 Answers (Err (faults.Frame cause)) read = read ≡ Err cause
 Answers (Err faults.Memory) read = Unit {0}
+
+-- the frame, without how many bytes it took
+abbrev pub frame_alone : Result (Option (Frame × ℕ)) DecodeFault → Result (Option Frame) DecodeFault
+frame_alone (Ok (Some found)) = Ok (Some found.0)
+frame_alone (Ok None) = Ok None
+frame_alone (Err fault) = Err fault
+
+-- the frame takes so many bytes of the front, and they are its spelling
+abbrev pub Takes : List ℕ → Frame → ℕ → Type 0
+Takes bytes frame count = IsFrame frame × (count ≤ length bytes) × (take count bytes ≡ spelling frame)
 
 -- the bytes that an answer gives
 abbrev pub given : Result (Option Frame) DecodeFault → List ℕ

@@ -29,18 +29,18 @@ type_number types.Close = 18
 -- the type that has a number
 unfoldable pub type_at : ℕ → Option FrameType
 type_at n =
-  if n == 0 then Some types.Protocol else
-  if n == 1 then Some types.Inject else
-  if n == 2 then Some types.OpenFile else
-  if n == 3 then Some types.ExtendFile else
-  if n == 5 then Some types.Fill else
-  if n == 8 then Some types.OpenPipe else
-  if n == 10 then Some types.PipeTransfer else
-  if n == 11 then Some types.PipeShutR else
-  if n == 12 then Some types.PipeShutW else
-  if n == 16 then Some types.Ack else
-  if n == 17 then Some types.Restart else
-  if n == 18 then Some types.Close else None
+    if n == 0 then Some types.Protocol else
+    if n == 1 then Some types.Inject else
+    if n == 2 then Some types.OpenFile else
+    if n == 3 then Some types.ExtendFile else
+    if n == 5 then Some types.Fill else
+    if n == 8 then Some types.OpenPipe else
+    if n == 10 then Some types.PipeTransfer else
+    if n == 11 then Some types.PipeShutR else
+    if n == 12 then Some types.PipeShutW else
+    if n == 16 then Some types.Ack else
+    if n == 17 then Some types.Restart else
+    if n == 18 then Some types.Close else None
 
 abbrev pub type_of : Frame → FrameType
 type_of (Protocol messages) = types.Protocol

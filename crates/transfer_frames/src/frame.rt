@@ -10,41 +10,81 @@ use wl_wire::{Bytes, HandleNumbers};
 #[derive(Debug, Drop)]
 pub enum Frame {
     /// One or more whole Wayland messages.
-    Protocol { messages: Bytes },
+    Protocol {
+        messages: Bytes,
+    },
     /// The rids of handles that the next messages carry, one or more.
-    Inject { rids: HandleNumbers },
+    Inject {
+        rids: HandleNumbers,
+    },
     /// A file is passed for the first time; its size in bytes.
-    OpenFile { rid: i32, size: u32 },
+    OpenFile {
+        rid: i32,
+        size: u32,
+    },
     /// A file has grown; its new size in bytes.
-    ExtendFile { rid: i32, size: u32 },
+    ExtendFile {
+        rid: i32,
+        size: u32,
+    },
     /// The bytes of a file from `start` to before `end`, whole blocks of 64 bytes.
-    Fill { rid: i32, start: u32, end: u32, bytes: Bytes },
+    Fill {
+        rid: i32,
+        start: u32,
+        end: u32,
+        bytes: Bytes,
+    },
     /// The write end of a pipe is passed for the first time.
-    OpenPipe { rid: i32 },
+    OpenPipe {
+        rid: i32,
+    },
     /// 1 to 65,536 bytes that were written to a pipe.
-    PipeTransfer { rid: i32, bytes: Bytes },
+    PipeTransfer {
+        rid: i32,
+        bytes: Bytes,
+    },
     /// The reading end of a pipe was closed.
-    PipeShutR { rid: i32 },
+    PipeShutR {
+        rid: i32,
+    },
     /// The write end of a pipe was closed.
-    PipeShutW { rid: i32 },
+    PipeShutW {
+        rid: i32,
+    },
     /// How many counted frames were accepted.
-    Ack { count: u64 },
+    Ack {
+        count: u64,
+    },
     /// The greeting of a connection: the session's token, the connection's number, and how many counted
     /// frames were accepted before.
-    Restart { token: [u8; 16], connection: u32, received: u64 },
+    Restart {
+        token: [u8; 16],
+        connection: u32,
+        received: u64,
+    },
     /// The sender makes no counted frame after this one.
-    Close { reason: u32 },
+    Close {
+        reason: u32,
+    },
 }
 
 /// What part a frame has on its connection.
 #[derive(Clone, Copy, Debug, PartialEq, Eq)]
 pub enum FrameRole {
     /// It is kept until it is acknowledged; `closes` where it is CLOSE, the last such frame.
-    Counted { closes: bool },
+    Counted {
+        closes: bool,
+    },
     /// It tells how many counted frames were accepted.
-    Tells { count: u64 },
+    Tells {
+        count: u64,
+    },
     /// It greets.
-    Greets { token: [u8; 16], connection: u32, received: u64 },
+    Greets {
+        token: [u8; 16],
+        connection: u32,
+        received: u64,
+    },
 }
 
 /// The part that a frame has on its connection.
@@ -53,7 +93,11 @@ pub fn part_of(frame: &Frame) -> FrameRole
 {
     match frame {
         Frame::Ack { count } => FrameRole::Tells { count: *count },
-        Frame::Restart { token, connection, received } => FrameRole::Greets {
+        Frame::Restart {
+            token,
+            connection,
+            received,
+        } => FrameRole::Greets {
             token: *token,
             connection: *connection,
             received: *received,

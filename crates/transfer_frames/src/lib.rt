@@ -3,8 +3,8 @@
 
 mod cause;
 mod frame;
+mod front;
 mod kinds;
-mod laws;
 mod numbers;
 mod reading;
 mod rules;
@@ -12,5 +12,6 @@ mod writing;
 
 pub use cause::{DecodeFault, FrameCause};
 pub use frame::{Frame, FrameRole, part_of};
+pub use front::first_frame;
 pub use reading::decode;
 pub use writing::encode;

@@ -108,9 +108,13 @@ fn frame_of(alloc: Global, frame_type: FrameType, body: &[u8]) -> Result<Frame, 
         FrameType::PipeTransfer => transfer_of(alloc, body),
         FrameType::PipeShutR => Ok(Frame::PipeShutR { rid: rid_at(body) }),
         FrameType::PipeShutW => Ok(Frame::PipeShutW { rid: rid_at(body) }),
-        FrameType::Ack => Ok(Frame::Ack { count: long_at(body) }),
+        FrameType::Ack => Ok(Frame::Ack {
+            count: long_at(body),
+        }),
         FrameType::Restart => Ok(restart_of(body)),
-        FrameType::Close => Ok(Frame::Close { reason: word_at(body) }),
+        FrameType::Close => Ok(Frame::Close {
+            reason: word_at(body),
+        }),
     }
 }
 
