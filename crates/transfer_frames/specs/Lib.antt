@@ -3,3 +3,4 @@ pub mod Numbers
 pub mod Grammar
 pub mod Faults
 pub mod Front
+pub mod Laws

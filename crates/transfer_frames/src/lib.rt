@@ -5,6 +5,7 @@ mod cause;
 mod frame;
 mod front;
 mod kinds;
+mod laws;
 mod numbers;
 mod reading;
 mod rules;
@@ -13,5 +14,8 @@ mod writing;
 pub use cause::{DecodeFault, FrameCause};
 pub use frame::{Frame, FrameRole, part_of};
 pub use front::first_frame;
+pub use laws::{
+    front_is_decided, length_is_bounded, message_fits, read_is_spelled, row_is_unique,
+};
 pub use reading::decode;
 pub use writing::encode;
