@@ -4,3 +4,4 @@ pub mod Grammar
 pub mod Faults
 pub mod Front
 pub mod Laws
+pub mod FrameLines

@@ -6,6 +6,7 @@ mod frame;
 mod front;
 mod kinds;
 mod laws;
+mod line;
 mod numbers;
 mod reading;
 mod rules;
@@ -17,5 +18,6 @@ pub use front::first_frame;
 pub use laws::{
     front_is_decided, length_is_bounded, message_fits, read_is_spelled, row_is_unique,
 };
+pub use line::frame_line;
 pub use reading::decode;
 pub use writing::encode;
