@@ -63,7 +63,7 @@ restart_number : (token : List ℕ) (connection received : ℕ) → length token
 restart_number token connection received len =
     sym (drop-drop 4 16 (token ++ (word_bytes connection ++ long_bytes received))) ∙ ap (drop 4) (drop_at token (word_bytes connection ++ long_bytes received) 16 len) ∙ after_word connection (long_bytes received)
 
-restart_length : (token : List ℕ) (connection received : ℕ) → length token ≡ 16 → length (token ++ (word_bytes connection ++ long_bytes received)) ≡ 28
+pub restart_length : (token : List ℕ) (connection received : ℕ) → length token ≡ 16 → length (token ++ (word_bytes connection ++ long_bytes received)) ≡ 28
 restart_length token connection received len =
     omega (arith, length-append token (word_bytes connection ++ long_bytes received), length-append (word_bytes connection) (long_bytes received), length-word_bytes connection, length-long_bytes received)
 

@@ -135,3 +135,9 @@ role (Ack count) = Tells count
 role (Restart token connection received) = Greets token connection received
 role (Close reason) = Counted true
 role frame = Counted false
+
+-- it greets or tells a count
+abbrev pub IsReply : Frame → Type 0
+IsReply (Ack count) = Unit {0}
+IsReply (Restart token connection received) = Unit {0}
+IsReply frame = ⊥

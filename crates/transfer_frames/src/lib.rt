@@ -10,6 +10,7 @@ mod line;
 mod numbers;
 mod reading;
 mod rules;
+mod small;
 mod writing;
 
 pub use cause::{DecodeFault, FrameCause};
@@ -20,4 +21,5 @@ pub use laws::{
 };
 pub use line::frame_line;
 pub use reading::decode;
+pub use small::put_small;
 pub use writing::encode;
