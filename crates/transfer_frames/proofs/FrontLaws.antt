@@ -136,11 +136,11 @@ front-proper frame part rest h parts some =
     elim (cases_lt (length part) 4) [
       | inl lt ↦ front-short part lt
       | inr le ↦
-        let word : word_of part ≡ first_word frame = sym (word_of-append part rest le) ∙ ap word_of (sym parts) ∙ spelled_alone frame h in
-        let whole : frame_length (word_of part) ≡ length (spelling frame) = ap frame_length word ∙ ap padded (spelled_size frame) ∙ sym (length-spelling frame) in
-        let both : length (spelling frame) ≡ length part + length rest = ap length parts ∙ length-append part rest in
-        let more : 0 < length rest = some_length rest some in
-        front-waits part le (ap word_fault word ∙ spelled_word_fault frame h) (omega arith)
+          let word : word_of part ≡ first_word frame = sym (word_of-append part rest le) ∙ ap word_of (sym parts) ∙ spelled_alone frame h in
+          let whole : frame_length (word_of part) ≡ length (spelling frame) = ap frame_length word ∙ ap padded (spelled_size frame) ∙ sym (length-spelling frame) in
+          let both : length (spelling frame) ≡ length part + length rest = ap length parts ∙ length-append part rest in
+          let more : 0 < length rest = some_length rest some in
+          front-waits part le (ap word_fault word ∙ spelled_word_fault frame h) (omega arith)
     ]
   where
     some_length : (xs : List ℕ) → xs ≢ [] → 0 < length xs
