@@ -1,13 +1,13 @@
 -- What stands at the front of a stream: the cases, and the laws of whole frames, of faults that stay, and of frames that are still to come.
-use Rattle.std.proofs.Common.{◌≡◌, ◌≢◌, ℕ, zero, suc, ◌+◌, ◌-◌, ◌*◌, ◌/◌, ◌%◌, ◌^◌, ◌<◌, ◌≤◌, Bool, true, false, cond, nat_lt, List, [], ◌∷◌, ◌++◌, length, take, drop, Option, Some, None, Result, Ok, Err, refl, sym, ap, subst, ◌∙◌, append_assoc, arith, inl, inr, ◌⊎◌}
+use Rattle.std.proofs.Common.{◌≡◌, ◌≢◌, ℕ, ◌+◌, ◌<◌, ◌≤◌, List, [], ◌∷◌, ◌++◌, length, take, drop, Option, Some, None, Result, Ok, Err, refl, sym, ap, subst, ◌∙◌, append_assoc, arith, inl, inr, ◌⊎◌}
 use Rattle.std.specs.List.{flat_map, AllByRecursion}
 use Rattle.std.proofs.lemmas.Bool.{cases_lt, lt-ltb, le-ltb}
-use Rattle.std.proofs.lemmas.List.{take_at, drop_at, length-append, length-take, length-drop, take-append-drop, take-append-le, append_cancel_left}
+use Rattle.std.proofs.lemmas.List.{take_at, length-append, length-take, take-append-drop, take-append-le, append_cancel_left}
 use Rattle.transfer_frames.specs.declared.frame.Frame.{Frame}
 use Rattle.transfer_frames.specs.declared.cause.FrameCause.{FrameCause}
 use Rattle.transfer_frames.specs.Numbers.{word_of, IsBytes}
-use Rattle.transfer_frames.specs.Grammar.{size, first_word, padded, spelling, MOST, IsFrame, Spells}
-use Rattle.transfer_frames.specs.Faults.{size_in, frame_length, word_fault, first_fault}
+use Rattle.transfer_frames.specs.Grammar.{first_word, padded, spelling, IsFrame, Spells}
+use Rattle.transfer_frames.specs.Faults.{frame_length, word_fault, first_fault}
 use Rattle.transfer_frames.specs.Front.{frame_in, unless, front}
 use Rattle.transfer_frames.specs.Laws.{NoFrame}
 use Rattle.transfer_frames.proofs.NumberLaws.{word_of-take, IsBytes-take}

@@ -1,9 +1,9 @@
 -- The spelling of a RESTART, with no padding to write.
-use Rattle.std.proofs.Common.{◌≡◌, ℕ, ◌+◌, ◌-◌, ◌*◌, List, [], ◌++◌, length, take, replicate, refl, sym, ap, ◌∙◌, append_assoc, arith}
+use Rattle.std.proofs.Common.{◌≡◌, ℕ, ◌+◌, ◌-◌, ◌*◌, List, ◌++◌, length, take, replicate, sym, ap, ◌∙◌, append_assoc}
 use Rattle.std.proofs.lemmas.List.{append-nil}
 use Rattle.transfer_frames.specs.declared.frame.Frame.TheVariants.{Restart}
 use Rattle.transfer_frames.specs.Numbers.{word_bytes, long_bytes}
-use Rattle.transfer_frames.specs.Grammar.{spelling, size, padded}
+use Rattle.transfer_frames.specs.Grammar.{spelling, padded}
 use Rattle.transfer_frames.proofs.BodyLaws.{restart_length}
 use Rattle.transfer_frames.proofs.FrameLaws.{length-spelling}
 

@@ -1,5 +1,5 @@
 -- The grammar of the link's frames: which frames there are and the one spelling of each in bytes; it is this project's own, and the messages in a PROTOCOL frame are those of the Wayland wire format.
-use Rattle.std.specs.Prelude.{◌≡◌, ℤ, ℕ, ◌+◌, ◌-◌, ◌*◌, ◌/◌, ◌%◌, ◌<◌, ◌≤◌, ◌==◌, if◌then◌else◌, true, false, List, [], ◌∷◌, ◌++◌, length, All, replicate, Option, Some, None}
+use Rattle.std.specs.Prelude.{◌≡◌, ℕ, ◌+◌, ◌-◌, ◌*◌, ◌/◌, ◌%◌, ◌<◌, ◌≤◌, ◌==◌, if◌then◌else◌, true, false, List, [], ◌++◌, length, replicate, Option, Some, None}
 use Rattle.std.specs.List.{flat_map, AllByRecursion}
 use Rattle.wl_wire.specs.Wire.{cut_rest}
 use Rattle.transfer_frames.specs.declared.frame.Frame.{Frame}

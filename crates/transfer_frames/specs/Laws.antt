@@ -1,10 +1,9 @@
 -- Laws of the grammar of the link's frames, which are this project's own: one spelling for each frame, one frame for each spelling, and one row of frames in a stream.
-use Rattle.std.specs.Prelude.{◌≡◌, ◌≢◌, ℕ, ◌≤◌, List, [], ◌++◌, length, Option, Some, None, Ok, Err}
+use Rattle.std.specs.Prelude.{◌≡◌, ◌≢◌, ℕ, ◌≤◌, List, [], ◌++◌, length, Some, None, Ok}
 use Rattle.std.specs.List.{flat_map, AllByRecursion}
 use Rattle.wl_wire.specs.Wire.{IsMessage}
 use Rattle.transfer_frames.specs.declared.frame.Frame.{Frame}
 use Rattle.transfer_frames.specs.declared.frame.Frame.TheVariants.{Protocol}
-use Rattle.transfer_frames.specs.declared.cause.FrameCause.{FrameCause}
 use Rattle.transfer_frames.specs.Numbers.{word_of, IsBytes}
 use Rattle.transfer_frames.specs.Grammar.{MOST, IsFrame, Spells, spelling}
 use Rattle.transfer_frames.specs.Faults.{frame_length, first_fault}

@@ -25,7 +25,7 @@ fn front_of(alloc: Global, bytes: &[u8]) -> Result<Option<usize>, DecodeFault> {
 }
 
 // A frame of each type, and its line.
-const FRAMES: [(&str, &str); 12] = [
+const ONE_OF_EACH: [(&str, &str); 12] = [
     (
         "000300000100000000000c00020000000200000000000800",
         "7 PROTOCOL 0100000000000c00020000000200000000000800",
@@ -54,7 +54,7 @@ const FRAMES: [(&str, &str); 12] = [
 
 #[test]
 fn each_type(rt: HostRuntime) -> Result<(), Fail> {
-    for (text, line) in FRAMES {
+    for (text, line) in ONE_OF_EACH {
         let bytes = hex::decode(rt.alloc(), text)
             .ok()
             .ok_or("the row is hexadecimal")?;
@@ -70,7 +70,7 @@ fn each_type(rt: HostRuntime) -> Result<(), Fail> {
 
 #[test]
 fn truncations(rt: HostRuntime) -> Result<(), Fail> {
-    for (text, _) in FRAMES {
+    for (text, _) in ONE_OF_EACH {
         let bytes = hex::decode(rt.alloc(), text)
             .ok()
             .ok_or("the row is hexadecimal")?;

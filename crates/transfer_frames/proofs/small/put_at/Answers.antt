@@ -1,4 +1,4 @@
-use Rattle.std.proofs.Common.{rules, arith}
+use Rattle.std.proofs.Common.{rules}
 use Rattle.std.proofs.lemmas.Slice.{overwrites}
 use Rattle.transfer_frames.proofs.small.put_at.Goals as goal
 
