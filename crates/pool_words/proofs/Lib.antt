@@ -1,0 +1,6 @@
+pub mod Histories
+pub mod Seats
+pub mod Steps
+pub mod Meetings
+pub mod Known
+pub mod Rows
