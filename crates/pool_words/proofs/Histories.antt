@@ -38,9 +38,3 @@ has_stood_more h more l s = (omega (arith, length-append h more), stood_more h m
 
 pub since_more : (h more : List Write) (low : ℕ) (s : Sight) → HasStoodSince h low s → HasStoodSince (h ++ more) low s
 since_more h more low s stood = stood_more h more low (length h) (length (h ++ more)) s.word s.value (omega arith) (omega (arith, length-append h more)) stood
-
-held_after_untouched : (ws : List Write) (i v : ℕ) → All (λ w. w.word ≢ i) ws → held_after ws i v ≡ v
-held_after_untouched [] i v none = refl
-held_after_untouched (w ∷ ws) i v none =
-    ap (λ b. held_after ws i (if b then w.value else v)) (ne_eqb w.word i (All-head (λ (u : Write). u.word ≢ i) w ws none))
-    ∙ held_after_untouched ws i v (All-tail (λ (u : Write). u.word ≢ i) w ws none)

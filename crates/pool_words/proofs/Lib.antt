@@ -4,3 +4,4 @@ pub mod Steps
 pub mod Meetings
 pub mod Known
 pub mod Rows
+pub mod Stretches

@@ -9,6 +9,7 @@
 mod desk;
 mod eye;
 mod law;
+pub mod laws;
 mod pen;
 mod receipt;
 mod views;
@@ -16,3 +17,6 @@ mod views;
 pub use eye::Eye;
 pub use pen::{Pen, Stranger, WritesSpent, new_pool};
 pub use receipt::Receipt;
+
+#[cfg(test)]
+mod tests;
