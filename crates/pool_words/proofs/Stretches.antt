@@ -42,9 +42,9 @@ shorter h low k high i above below none =
     let P : Write → Type 0 = λ w. w.word ≢ i in
     let split : low + (k - low) ≡ k = omega arith in
     let part : take (k - low) (drop low (take high h)) ≡ drop low (take k h) =
-        sym (drop-take low (k - low) (take high h))
-        ∙ ap (λ (n : ℕ). drop low (take n (take high h))) split
-        ∙ ap (drop low) (take-take k high h below) in
+    sym (drop-take low (k - low) (take high h))
+    ∙ ap (λ (n : ℕ). drop low (take n (take high h))) split
+    ∙ ap (drop low) (take-take k high h below) in
     subst (λ (ws : List Write). All P ws) part (All-take P (k - low) (drop low (take high h)) none)
 
 pub committed : UntouchedIsCommitted
