@@ -3,7 +3,14 @@
 #![tactic(auto)]
 
 mod handles;
+mod laws;
 mod tables;
 
 pub use handles::Handle;
+pub use laws::{
+    one_handle_per_rid, pass_answers_rid, passed_once_lasts, rid_outlasts, rids_are_dense,
+};
 pub use tables::Handles;
+
+#[cfg(test)]
+mod tests;
