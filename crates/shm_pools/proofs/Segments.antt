@@ -1,9 +1,9 @@
 -- What holds of the parts of a file once one pen has changed, and once there is one pen more.
-use Rattle.std.proofs.Common.{◌≡◌, ◌≢◌, ℕ, zero, suc, ◌+◌, ◌-◌, ◌*◌, ◌/◌, ◌<◌, ◌≤◌, ℤ, List, [], ◌∷◌, ◌++◌, length, set, get_or, sym, refl, ap, ◌∙◌, subst, arith, length-append, length-set}
+use Rattle.std.proofs.Common.{◌≡◌, ℕ, zero, suc, ◌+◌, ◌-◌, ◌*◌, ◌/◌, ◌<◌, ℤ, List, [], ◌∷◌, ◌++◌, length, set, sym, refl, ap, ◌∙◌, subst, arith, length-append, length-set}
 use Rattle.std.specs.Prelude.{OnOk, OnErr, Result, Ok, Err}
 use Rattle.std.proofs.lemmas.List.{get_or-set_same, get_or-set_other, get_or_append_left, get_or_push}
 use native.Mathlib.Decide.{ℕ_discrete}
-use Rattle.pool_words.specs.Views.{PenState, ReceiptState, write}
+use Rattle.pool_words.specs.Views.{PenState, ReceiptState}
 use Rattle.shm_pools.specs.Files.{IsSize, IsWhole, words_of, pen_at, pool_number, wrote, took, no_pen}
 
 words_of-append : (xs ys : List PenState) → words_of (xs ++ ys) ≡ words_of xs + words_of ys

@@ -1,6 +1,6 @@
 -- A file of shared memory as its segments: what Wayland's wl_shm.create_pool and wl_shm_pool.resize hand over, which grows and never shrinks.
 -- Each segment is a pool of 64 bit words. A file's words are its segments' words in order.
-use Rattle.std.specs.Prelude.{◌≡◌, ℕ, zero, suc, ◌+◌, ◌-◌, ◌*◌, ◌/◌, ◌%◌, ◌<◌, ◌≤◌, ℤ, List, [], ◌∷◌, ◌++◌, length, map, nat_lt, slice_index_or, slice_set, if◌then◌else◌, pos, ◌+ℤ◌}
+use Rattle.std.specs.Prelude.{◌≡◌, ℕ, zero, suc, ◌+◌, ◌-◌, ◌*◌, ◌/◌, ◌%◌, ◌<◌, ◌≤◌, ℤ, List, [], ◌∷◌, ◌++◌, length, nat_lt, slice_index_or, slice_set, if◌then◌else◌, pos, ◌+ℤ◌}
 use Rattle.std.specs.Int.RustNames.{unsigned_abs}
 use Rattle.std.specs.Int.{to_le_bytes}
 use Rattle.std.specs.List.{flat_map}

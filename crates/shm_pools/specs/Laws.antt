@@ -1,5 +1,5 @@
 -- What follows of files of shared memory (Wayland's wl_shm.create_pool) from their segments alone.
-use Rattle.std.specs.Prelude.{◌≡◌, ℕ, ◌+◌, ◌<◌, ◌≤◌, ℤ, List, length, take, pos, ◌+ℤ◌, ◌≤ℤ◌, slice_set}
+use Rattle.std.specs.Prelude.{◌≡◌, ℕ, ◌+◌, ◌<◌, ℤ, List, length, take, pos, ◌+ℤ◌, ◌≤ℤ◌, slice_set}
 use Rattle.pool_words.specs.Views.{PenState}
 use Rattle.shm_pools.specs.Files.{words_of, pool_number, pen_at, segment_of, offset_of, written, file_words}
 

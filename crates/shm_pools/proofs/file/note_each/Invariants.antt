@@ -1,4 +1,4 @@
-use Rattle.std.proofs.Common.{◌≡◌, length, map, take}
+use Rattle.std.proofs.Common.{◌≡◌, map, take}
 use Rattle.pool_words.specs.Views.{note_of}
 use Rattle.shm_pools.proofs.file.note_each.Given as goal
 

@@ -1,4 +1,4 @@
-use Rattle.std.proofs.Common.{rules, w32, FitsSigned, ◌≡◌, ℤ, ◌+◌, ◌*◌, ◌<◌, List, length, ap, ◌∙◌, sym, subst, arith}
+use Rattle.std.proofs.Common.{rules, w32, FitsSigned, ◌≡◌, ℤ, ◌*◌, ◌<◌, List, length, ap, ◌∙◌, sym, subst, arith}
 use Rattle.std.specs.Vec.{vec_len}
 use Rattle.std.proofs.lemmas.Int.{to_z-of_z}
 use Rattle.pool_words.specs.Views.{PenState}

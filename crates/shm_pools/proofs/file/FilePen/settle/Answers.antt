@@ -1,4 +1,4 @@
-use Rattle.std.proofs.Common.{◌≡◌, ◌<◌, List, length, ap, ◌∙◌, sym, subst, arith}
+use Rattle.std.proofs.Common.{◌<◌, List, length, ap, ◌∙◌, sym, subst, arith}
 use Rattle.std.specs.Prelude.{All, OnOk}
 use Rattle.std.proofs.lemmas.List.{get_or_default, get_or-set_same}
 use Rattle.pool_words.specs.History.{HasStood}

@@ -1,4 +1,4 @@
-use Rattle.std.proofs.Common.{◌≡◌, ◌<◌, List, length, ap, ◌∙◌, subst, sym}
+use Rattle.std.proofs.Common.{◌<◌, List, length, ap, ◌∙◌, subst}
 use Rattle.std.proofs.lemmas.List.{get_or_default}
 use Rattle.pool_words.specs.Views.{PenState}
 use Rattle.shm_pools.specs.Files.{no_pen}
