@@ -2,6 +2,7 @@
 #![tactic(auto)]
 
 mod arg_sizes;
+mod arg_values;
 mod arguments;
 mod byte_list;
 mod faults;
