@@ -2,3 +2,5 @@ pub mod FrontLemmas
 pub mod Cutting
 pub mod CuttingLaws
 pub mod ArgReading
+pub mod ArgLists
+pub mod BuildingLemmas

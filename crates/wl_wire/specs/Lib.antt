@@ -1,5 +1,7 @@
 pub mod ArgFaults
+pub mod ArgStep
 pub mod Arguments
+pub mod Building
 pub mod Framing
 pub mod SignatureFields
 pub mod SignatureForm

@@ -4,6 +4,7 @@
 mod arg_sizes;
 mod arg_values;
 mod arguments;
+mod building;
 mod byte_list;
 mod faults;
 mod framer;
@@ -12,10 +13,12 @@ mod handle_list;
 mod laws;
 mod message;
 mod message_list;
+mod reading;
 mod signature;
 mod text_list;
 
 pub use arguments::{Arg, ArgList};
+pub use building::build;
 pub use byte_list::{Bytes, append_reserved};
 pub use faults::{MessageFault, ObjectFault, WireFault};
 pub use framer::Framer;
@@ -24,5 +27,6 @@ pub use handle_list::HandleNumbers;
 pub use laws::{cut_by_parts, cut_is_unique, fault_stays, front_is_decided, joined_is_cut};
 pub use message::Message;
 pub use message_list::MessageList;
+pub use reading::args;
 pub use signature::{ArgKind, Signature, Slot};
 pub use text_list::Text;
