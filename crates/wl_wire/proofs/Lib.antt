@@ -4,3 +4,5 @@ pub mod CuttingLaws
 pub mod ArgReading
 pub mod ArgLists
 pub mod BuildingLemmas
+pub mod ArgShapes
+pub mod ArgUnique

@@ -1,4 +1,5 @@
 pub mod ArgFaults
+pub mod ArgLaws
 pub mod ArgStep
 pub mod Arguments
 pub mod Building
