@@ -1,5 +1,5 @@
 -- How the reading of arguments goes along the places: what is left to read gives the whole.
-use Rattle.std.proofs.Common.{◌==◌, true, ◌≡◌, ◌≢◌, ℕ, ◌+◌, ◌<◌, ◌≤◌, List, [], ◌∷◌, ◌++◌, length, take, drop, get_or, slice_get, Option, Some, None, Result, Ok, Err, subst, refl, sym, ap, ◌∙◌, arith, append_assoc, take-append-drop}
+use Rattle.std.proofs.Common.{◌==◌, true, ◌≡◌, ◌≢◌, ℕ, ◌+◌, ◌<◌, ◌≤◌, List, [], ◌∷◌, ◌++◌, length, take, drop, slice_get, Option, Some, Result, Err, subst, refl, sym, ap, ◌∙◌, append_assoc, take-append-drop}
 use Rattle.std.proofs.lemmas.List.{append-nil, drop_more, drop_all, nil_from_length}
 use Rattle.std.proofs.lemmas.Bool.{eqb-true}
 use Rattle.wl_wire.specs.declared.faults.MessageFault.{MessageFault}
@@ -9,7 +9,7 @@ use Rattle.wl_wire.specs.declared.arguments.Arg.{Arg}
 use Rattle.wl_wire.specs.declared.faults.WireFault.{WireFault}
 use Rattle.wl_wire.specs.declared.faults.WireFault.TheVariants.{ArgLong}
 use Rattle.wl_wire.specs.declared.signature.Slot.{Slot}
-use Rattle.wl_wire.specs.Arguments.{IsArg, Spells}
+use Rattle.wl_wire.specs.Arguments.{Spells}
 use Rattle.wl_wire.specs.ArgFaults.{arg_size, after_arg, args_fault, Decodes}
 use Rattle.wl_wire.specs.ArgStep.{IsRead, StepDecodes}
 

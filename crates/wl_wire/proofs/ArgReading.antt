@@ -1,5 +1,5 @@
 -- What a size that is good says of the bytes at the front: they are the argument that is read there.
-use Rattle.std.proofs.Common.{◌≡◌, ◌≢◌, ℕ, ◌+◌, ◌-◌, ◌%◌, ◌<◌, ◌≤◌, ◌==◌, ◌⊎◌, inl, inr, List, [], ◌∷◌, ◌++◌, length, take, drop, get_or, slice_index, Bool, true, false, IsTrue, Result, Ok, Err, subst, refl, sym, ap, ◌∙◌, arith, rules, length-append, length-drop, append_assoc, take-append-drop, w32}
+use Rattle.std.proofs.Common.{◌≡◌, ◌≢◌, ℕ, ◌+◌, ◌-◌, ◌<◌, ◌≤◌, ◌⊎◌, inl, inr, List, [], ◌∷◌, ◌++◌, length, take, drop, get_or, slice_index, Bool, false, IsTrue, Result, Ok, Err, subst, refl, sym, ap, ◌∙◌, arith, length-drop, take-append-drop, w32}
 use Rattle.std.proofs.lemmas.List.{length-take-le, get_or-drop, take_more, drop-drop}
 use Rattle.std.proofs.lemmas.Bool.{false≢true, cases_lt, cases_eq, cases_Bool, lt-ltb, le-ltb, eq-eqb, ne_eqb}
 use Rattle.std.proofs.Math.Seq.{take-add}

@@ -6,3 +6,5 @@ pub mod ArgLists
 pub mod BuildingLemmas
 pub mod ArgShapes
 pub mod ArgUnique
+pub mod ArgRoundTrip
+pub mod ArgPadding

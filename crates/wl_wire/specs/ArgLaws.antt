@@ -1,5 +1,5 @@
 -- Laws of the arguments in the wire format of the Wayland protocol: they are read in one way, what is built is read again, and what was read is built again but for the padding.
-use Rattle.std.specs.Prelude.{◌≡◌, ◌↔◌, ℕ, ◌+◌, ◌-◌, ◌^◌, ◌<◌, ◌≤◌, List, [], ◌∷◌, ◌++◌, length, take, drop, All, Bool, true, false, IsTrue, Option, Some, None, Result, Ok, Err, FitsSigned}
+use Rattle.std.specs.Prelude.{◌≡◌, ◌↔◌, ℕ, ◌+◌, ◌-◌, ◌^◌, ◌<◌, List, [], ◌∷◌, ◌++◌, length, take, drop, All, Bool, IsTrue, None, Result, Ok, Err, FitsSigned}
 use Rattle.std.specs.Int.{w32}
 use Rattle.wl_wire.specs.declared.arguments.Arg.{Arg}
 use Rattle.wl_wire.specs.declared.arguments.Arg.TheVariants as arg
@@ -10,7 +10,7 @@ use Rattle.wl_wire.specs.declared.signature.Slot.{Slot}
 use Rattle.wl_wire.specs.Wire.{word_at, object_of, opcode_of, IsMessage}
 use Rattle.wl_wire.specs.Arguments.{padding_of, Spells}
 use Rattle.wl_wire.specs.ArgFaults.{arg_size, args_fault}
-use Rattle.wl_wire.specs.Building.{zeros, args_bytes, built}
+use Rattle.wl_wire.specs.Building.{zeros, built}
 
 -- bytes are spelled by one list of arguments at most
 abbrev pub ReadsInOneWay : Type 0

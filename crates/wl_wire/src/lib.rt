@@ -1,6 +1,7 @@
 //! Bytes of the Wayland protocol: lists of bytes, messages, and the reader that cuts a stream into messages.
 #![tactic(auto)]
 
+mod arg_laws;
 mod arg_sizes;
 mod arg_values;
 mod arguments;
@@ -17,6 +18,7 @@ mod reading;
 mod signature;
 mod text_list;
 
+pub use arg_laws::{args_are_unique, built_is_read, read_is_built};
 pub use arguments::{Arg, ArgList};
 pub use building::build;
 pub use byte_list::{Bytes, append_reserved};

@@ -1,7 +1,6 @@
 use Rattle.std.proofs.Common.{◌≡◌, ℕ, List, take, drop, subst, sym, ap, ◌∙◌, arith}
 use Rattle.wl_wire.specs.Wire.{word_at}
-use Rattle.wl_wire.specs.Arguments.{IsCounted, padding_of}
-use Rattle.wl_wire.specs.ArgFaults.{span_of}
+use Rattle.wl_wire.specs.Arguments.{IsCounted}
 use Rattle.wl_wire.proofs.ArgReading.{array_size-ok, is_counted, span-counts}
 use Rattle.wl_wire.proofs.arg_values.array_arg.Goals as goal
 

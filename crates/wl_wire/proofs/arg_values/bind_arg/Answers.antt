@@ -1,4 +1,4 @@
-use Rattle.std.proofs.Common.{◌≡◌, ◌+◌, ◌-◌, ℕ, List, take, drop, subst, sym, ap, ◌∙◌, arith}
+use Rattle.std.proofs.Common.{◌≡◌, ◌-◌, ℕ, List, take, drop, subst, sym, ap, ◌∙◌, arith}
 use Rattle.wl_wire.specs.Wire.{word_at}
 use Rattle.wl_wire.specs.Arguments.{IsBind}
 use Rattle.wl_wire.proofs.ArgReading.{IsBound, bind_size-ok, is_bind, span-counts}

@@ -1,4 +1,4 @@
-use Rattle.std.proofs.Common.{◌≡◌, ℕ, List, take, subst, sym, ap, ◌∙◌, IsTrue, arith}
+use Rattle.std.proofs.Common.{◌≡◌, ℕ, take, subst, sym, IsTrue}
 use Rattle.wl_wire.specs.Wire.{word_at}
 use Rattle.wl_wire.specs.Arguments.{IsWord}
 use Rattle.wl_wire.proofs.ArgReading.{object_size-ok, is_word}

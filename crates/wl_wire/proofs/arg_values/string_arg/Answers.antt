@@ -1,8 +1,7 @@
-use Rattle.std.proofs.Common.{◌≡◌, ◌-◌, ℕ, List, take, drop, subst, sym, ap, ◌∙◌, inl, inr, arith}
+use Rattle.std.proofs.Common.{◌≡◌, ◌-◌, ℕ, List, take, drop, subst, sym, ap, ◌∙◌, arith}
 use Rattle.wl_wire.specs.Wire.{word_at}
 use Rattle.wl_wire.specs.Arguments.{IsString}
-use Rattle.wl_wire.specs.ArgFaults.{span_of}
-use Rattle.wl_wire.proofs.ArgReading.{IsNull, IsWhole, string_size-ok, string-room, string-none, string-some, is_string, is_null, span-counts}
+use Rattle.wl_wire.proofs.ArgReading.{IsWhole, string-room, string-none, string-some, is_string, is_null, span-counts}
 use Rattle.wl_wire.proofs.arg_values.string_arg.Goals as goal
 
 pub word_from-count-requires : goal.word_from-count-requires

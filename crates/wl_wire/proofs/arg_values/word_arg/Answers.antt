@@ -1,4 +1,4 @@
-use Rattle.std.proofs.Common.{◌≡◌, ℕ, List, take, subst, sym, ap, ◌∙◌, arith}
+use Rattle.std.proofs.Common.{ℕ, take, subst, sym}
 use Rattle.std.specs.Int.{cast_signed, w32}
 use Rattle.wl_wire.specs.Wire.{word_at}
 use Rattle.wl_wire.specs.Arguments.{IsWord, IsSigned}

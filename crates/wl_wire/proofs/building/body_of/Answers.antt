@@ -1,4 +1,4 @@
-use Rattle.std.proofs.Common.{◌≡◌, ◌<◌, ◌≤◌, List, [], ◌++◌, length, take, get_or, sym, ap, ◌∙◌, arith}
+use Rattle.std.proofs.Common.{◌++◌, sym, ap, ◌∙◌, arith}
 use Rattle.std.proofs.lemmas.List.{take_all}
 use Rattle.wl_wire.specs.Building.{arg_bytes, args_bytes}
 use Rattle.wl_wire.proofs.BuildingLemmas.{args_bytes-next, arg_bytes-bound}

@@ -1,4 +1,4 @@
-use Rattle.std.proofs.Common.{◌≡◌, ◌+◌, ℕ, List, [], drop, length, subst, sym, ap, ◌∙◌, arith}
+use Rattle.std.proofs.Common.{◌≡◌, ◌+◌, ℕ, List, [], drop, subst, sym, ◌∙◌, arith}
 use Rattle.wl_wire.specs.ArgFaults.{arg_size, args_fault}
 use Rattle.wl_wire.proofs.ArgLists.{SoFar, so_far-next, so_far-fault, so_far-spells, step-decodes, nil-test}
 use Rattle.wl_wire.proofs.reading.args.Goals as goal

@@ -1,7 +1,4 @@
-use Rattle.std.proofs.Common.{◌≡◌, List, ◌++◌, drop}
-use Rattle.wl_wire.specs.declared.arguments.Arg.{Arg}
-use Rattle.wl_wire.specs.Arguments.{Spells}
-use Rattle.wl_wire.specs.ArgFaults.{args_fault}
+use Rattle.std.proofs.Common.{drop}
 use Rattle.wl_wire.proofs.ArgLists.{SoFar}
 use Rattle.wl_wire.proofs.reading.args.Given as goal
 
