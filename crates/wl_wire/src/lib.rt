@@ -7,6 +7,7 @@ mod arg_values;
 mod arguments;
 mod building;
 mod byte_list;
+
 mod faults;
 mod framer;
 mod front;
@@ -17,11 +18,13 @@ mod message_list;
 mod reading;
 mod signature;
 mod text_list;
+mod whole_messages;
 
 pub use arg_laws::{args_are_unique, built_is_read, read_is_built};
 pub use arguments::{Arg, ArgList};
 pub use building::build;
 pub use byte_list::{Bytes, append_reserved};
+
 pub use faults::{MessageFault, ObjectFault, WireFault};
 pub use framer::Framer;
 pub use front::{all_messages, message_size};
@@ -32,3 +35,4 @@ pub use message_list::MessageList;
 pub use reading::args;
 pub use signature::{ArgKind, Signature, Slot};
 pub use text_list::Text;
+pub use whole_messages::cut_messages;
