@@ -117,3 +117,37 @@ built-message object opcode args low bound =
       is_padded = ap (λ n. n % 4) whole ∙ padded-sum 8 (length (args_bytes args)) refl (padded-args args);
       is_counted = size_of-built object opcode args low bound ∙ sym whole;
     }
+
+-- how long the bytes of the arguments are
+pub length_word : (value : ℕ) → length (word_bytes value) ≡ 4
+length_word value = length-word_bytes value
+
+pub length_counted : (content : List ℕ) → length (counted_bytes content) ≡ 4 + (length content + padding_of (length content))
+length_counted content =
+    let pad : ℕ = padding_of (length content) in
+    length-append (word_bytes (length content)) (content ++ zeros pad)
+    ∙ ap (λ n. n + length (content ++ zeros pad)) (length-word_bytes (length content))
+    ∙ ap (λ n. 4 + n) (length-append content (zeros pad) ∙ ap (λ n. length content + n) (length-replicate pad 0))
+
+pub length_string : (text : List ℕ) → length (string_bytes_of text) ≡ 4 + (length text + 1 + padding_of (length text + 1))
+length_string text =
+    length_counted (text ++ 0 ∷ []) ∙ ap (λ n. 4 + (n + padding_of n)) (length-append text (0 ∷ []) ∙ omega arith)
+
+pub length_bind : (interface : List ℕ) (version id : ℕ) → length (arg_bytes (Bind interface version id)) ≡ length (string_bytes_of interface) + 8
+length_bind interface version id =
+    length-append (string_bytes_of interface) (word_bytes version ++ word_bytes id)
+    ∙ ap (λ n. length (string_bytes_of interface) + n) (length-append (word_bytes version) (word_bytes id) ∙ omega (arith, length-word_bytes version, length-word_bytes id))
+
+pub padding_small : (count : ℕ) → padding_of count < 4
+unfolding padding_of
+padding_small count = omega arith
+
+-- the first arguments are no longer than all of them
+pub front_bound : (args : List Arg) (i : ℕ) → length (args_bytes (take i args)) ≤ length (args_bytes args)
+front_bound args i =
+    let parts : args_bytes args ≡ args_bytes (take i args) ++ args_bytes (drop i args) =
+    ap args_bytes (sym (take-append-drop i args)) ∙ args_bytes-append (take i args) (drop i args) in
+    omega (arith, ap length parts, length-append (args_bytes (take i args)) (args_bytes (drop i args)))
+
+pub length_next : (args : List Arg) (i : ℕ) (arg : Arg) → i < length args → arg ≡ get_or args i arg → length (args_bytes (take (i + 1) args)) ≡ length (args_bytes (take i args)) + length (arg_bytes arg)
+length_next args i arg within at = ap length (args_bytes-next args i arg within at) ∙ length-append (args_bytes (take i args)) (arg_bytes arg)

@@ -93,5 +93,5 @@ cut-fault bytes fault e = (cut-nothing bytes (stops-fault bytes fault e)).0
 
 pub cut-front : (bytes : List ℕ) (size : ℕ) → first bytes ≡ Ok (Some (take size bytes)) → cut bytes ≡ take size bytes ∷ cut (drop size bytes)
 cut-front bytes size e =
-  let whole : IsMessage (take size bytes) = (begins-found bytes (take size bytes) e).is_message in
-  ap cut (sym (take-append-drop size bytes)) ∙ (cut-message (take size bytes) (drop size bytes) whole).0
+    let whole : IsMessage (take size bytes) = (begins-found bytes (take size bytes) e).is_message in
+    ap cut (sym (take-append-drop size bytes)) ∙ (cut-message (take size bytes) (drop size bytes) whole).0
