@@ -127,3 +127,6 @@ pub fn build(alloc: Global, object: u32, opcode: u16, args: &ArgList) -> Result<
         Err(error) => Err(error),
     }
 }
+
+#[cfg(test)]
+mod tests;
