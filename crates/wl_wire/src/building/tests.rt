@@ -60,40 +60,46 @@ fn bind_is_built(rt: HostRuntime) -> Result<(), Fail> {
     Ok(())
 }
 
-// What is at fault where the body is read as an object that may not be null, and then a string.
-fn fault_of(rt: &impl Abort, alloc: Global, body: &[u8]) -> Option<MessageFault> {
-    let mut bytes = Bytes::new(alloc);
-    let size = 8 + body.len() as u8;
-    bytes
-        .append(&[1, 0, 0, 0, 0, 0, size, 0])
-        .ok()
-        .expect(rt, "memory is there");
-    bytes.append(body).ok().expect(rt, "memory is there");
+// What is at fault where the message has an object that may not be null, and then a string.
+fn fault_of(rt: &impl Abort, alloc: Global, message: &[u8]) -> Option<MessageFault> {
     let signature = Signature::new(false)
         .with(place(ArgKind::Object, false))
         .with(place(ArgKind::Str, false));
-    args(alloc, &signature, &message_of(rt, alloc, bytes.as_slice())).err()
+    args(alloc, &signature, &message_of(rt, alloc, message)).err()
 }
 
 #[test]
 fn first_fault_of_the_arguments(rt: HostRuntime) {
     let cases: [(&[u8], WireFault); 6] = [
-        (&[], WireFault::ArgShort),
-        (&[0, 0, 0, 0, 9, 0, 0, 0], WireFault::NullNotAllowed),
-        (&[5, 0, 0, 0, 0, 0, 0, 0], WireFault::NullNotAllowed),
-        (&[5, 0, 0, 0, 9, 0, 0, 0], WireFault::ArgShort),
+        (&[1, 0, 0, 0, 0, 0, 8, 0], WireFault::ArgShort),
         (
-            &[5, 0, 0, 0, 2, 0, 0, 0, b'a', b'b', 0, 0],
+            &[1, 0, 0, 0, 0, 0, 16, 0, 0, 0, 0, 0, 9, 0, 0, 0],
+            WireFault::NullNotAllowed,
+        ),
+        (
+            &[1, 0, 0, 0, 0, 0, 16, 0, 5, 0, 0, 0, 0, 0, 0, 0],
+            WireFault::NullNotAllowed,
+        ),
+        (
+            &[1, 0, 0, 0, 0, 0, 16, 0, 5, 0, 0, 0, 9, 0, 0, 0],
+            WireFault::ArgShort,
+        ),
+        (
+            &[
+                1, 0, 0, 0, 0, 0, 20, 0, 5, 0, 0, 0, 2, 0, 0, 0, b'a', b'b', 0, 0,
+            ],
             WireFault::StringNoNul,
         ),
         (
-            &[5, 0, 0, 0, 2, 0, 0, 0, b'a', 0, 0, 0, 0, 0, 0, 0],
+            &[
+                1, 0, 0, 0, 0, 0, 24, 0, 5, 0, 0, 0, 2, 0, 0, 0, b'a', 0, 0, 0, 0, 0, 0, 0,
+            ],
             WireFault::ArgLong,
         ),
     ];
-    for (body, fault) in cases {
+    for (message, fault) in cases {
         assert_eq!(rt;
-            fault_of(&rt, rt.alloc(), body),
+            fault_of(&rt, rt.alloc(), message),
             Some(MessageFault::Wire(fault))
         );
     }

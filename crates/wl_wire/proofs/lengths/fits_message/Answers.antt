@@ -1,6 +1,5 @@
-use Rattle.std.proofs.Common.{◌≡◌, ◌+◌, ◌<◌, ◌≤◌, ℕ, List, length, take, sym, ap, ◌∙◌, subst, arith}
+use Rattle.std.proofs.Common.{◌≡◌, ◌+◌, ◌<◌, length, ap, arith}
 use Rattle.std.proofs.lemmas.Bool.{false≢true}
-use Rattle.wl_wire.specs.declared.arguments.Arg.{Arg}
 use Rattle.wl_wire.specs.Building.{arg_bytes, args_bytes}
 use Rattle.wl_wire.proofs.BuildingLemmas.{arg_bytes-bound, front_bound, length_next}
 use Rattle.wl_wire.proofs.lengths.fits_message.Goals as goal

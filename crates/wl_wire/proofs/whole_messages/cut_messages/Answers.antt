@@ -1,4 +1,4 @@
-use Rattle.std.proofs.Common.{◌≡◌, ◌∙◌, List, [], ◌∷◌, ◌++◌, drop, take, sym, ap, append_assoc, Ok, Err, Some, None}
+use Rattle.std.proofs.Common.{◌≡◌, ◌∙◌, [], ◌∷◌, ◌++◌, drop, take, sym, ap, append_assoc, Ok, Err, Some, None}
 use Rattle.std.proofs.lemmas.List.{append-nil}
 use Rattle.wl_wire.specs.Wire.{first, cut}
 use Rattle.wl_wire.proofs.CuttingLaws.{cut-front, cut-waits, cut-fault}
