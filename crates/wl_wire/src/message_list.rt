@@ -101,7 +101,7 @@ mod tests {
         framer.feed(&[7, 0, 0, 0, 6, 0, 8, 0])?;
         let mut list = MessageList::new(rt.alloc());
         if let Some(message) = framer.next_message()? {
-            list.push(message)?;
+            list.push(message.clone()?)?;
         }
         assert_eq!(rt; list.len(), 1);
         assert_eq!(rt; list.into_vec()[0].object(), 7);
