@@ -267,3 +267,14 @@ fn numbers_of_causes(rt: HostRuntime) {
     assert_eq!(rt; FrameCause::RestartMissing.number(), 20);
     assert_eq!(rt; FrameCause::FilesTooLarge.number(), 39);
 }
+
+#[test]
+#[tactic(auto, unfolding(crate::specs::Numbers::word_of))]
+fn decode_whole(rt: HostRuntime) {
+    let bytes = [0x90, 1, 0, 0, 5, 0, 0, 0, 0, 0, 0, 0];
+    let count = match decode(rt.alloc(), &bytes) {
+        Ok(Frame::Ack { count }) => count,
+        _ => 0,
+    };
+    assert_eq!(rt; count, 5);
+}
