@@ -5,4 +5,5 @@ pub mod FilledLemmas
 pub mod ImageLemmas
 pub mod IntervalLemmas
 pub mod ViewLemmas
+pub mod LawProofs
 pub mod StepLemmas

@@ -18,9 +18,13 @@ blocks_of size = (size + 63) / 64
 abbrev pub few : List Run → List Run
 few runs = if nat_le (length runs) 1024 then runs else hull_of runs
 
+-- the runs of the blocks that hold a due byte, in a file of this size
+abbrev pub runs_due : (ℕ → Bool) → ℕ → List Run
+runs_due due size = runs_of (filter (holds due) (counted 0 (blocks_of size)))
+
 -- the filled blocks of a file of this size with these due bytes
 abbrev pub filled : (ℕ → Bool) → ℕ → List Run
-filled due size = few (runs_of (filter (holds due) (counted 0 (blocks_of size))))
+filled due size = few (runs_due due size)
 
 -- the filled blocks of the commit that comes next
 abbrev pub filled_at : SurfaceState → Standing → List Run

@@ -4,5 +4,6 @@ pub mod Filled
 pub mod History
 pub mod Images
 pub mod Pixels
+pub mod Statements
 pub mod Steps
 pub mod Views

@@ -5,6 +5,7 @@ mod area;
 mod history;
 mod image;
 mod interval;
+mod laws;
 mod rect;
 mod standing;
 mod surface;
@@ -13,6 +14,7 @@ mod transform;
 mod view;
 
 pub use history::BufferKey;
+pub use laws::{due_bytes_are_filled, filled_blocks_are_due, older_commits_are_idle};
 pub use rect::Rect;
 pub use standing::{Due, Standing};
 pub use surfaces::Surfaces;
