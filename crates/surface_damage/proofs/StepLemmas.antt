@@ -5,7 +5,8 @@ use Rattle.std.specs.BTreeMap.{is_at}
 use Rattle.std.proofs.lemmas.Bool.{cases_Bool, cond-true, cond-false}
 use Rattle.std.proofs.lemmas.Map.Steps.{set_value_same}
 use Rattle.surface_damage.specs.History.{SurfaceState}
-use Rattle.surface_damage.specs.Steps.{changed}
+use Rattle.std.specs.Prelude.{is_some}
+use Rattle.surface_damage.specs.Steps.{changed, find}
 
 none-some : {A B : Type 0} (v : A) → None ≡ Some v → B
 none-some v e = absurd (cc)
@@ -42,3 +43,12 @@ on-err (Err e) P Q f p = f p
 pub on-any-err : {T E : Type 0} (r : Result T E) (P : Type 0) → P → OnErr r P
 on-any-err (Ok u) P p = tt
 on-any-err (Err e) P p = p
+
+-- a step leaves the id there
+pub there_changed : (id : ℕ) (step : SurfaceState → SurfaceState) (es : List (ℕ × SurfaceState)) → is_some (find id (changed id step es)) ≡ is_some (find id es)
+there_changed id step [] = refl
+there_changed id step (e ∷ es) =
+    ⊎_elim
+    (λ yes_at. ap (λ t. is_some (find id t)) (cond-true (is_at (nat_cmp id) e.0) _ _ yes_at) ∙ ap is_some (cond-true (is_at (nat_cmp id) e.0) _ _ yes_at) ∙ sym (ap is_some (cond-true (is_at (nat_cmp id) e.0) (Some e.1) (find id es) yes_at)))
+    (λ not_at. ap (λ t. is_some (find id t)) (cond-false (is_at (nat_cmp id) e.0) _ _ not_at) ∙ ap is_some (cond-false (is_at (nat_cmp id) e.0) _ _ not_at) ∙ there_changed id step es ∙ sym (ap is_some (cond-false (is_at (nat_cmp id) e.0) (Some e.1) (find id es) not_at)))
+    (cases_Bool (is_at (nat_cmp id) e.0))

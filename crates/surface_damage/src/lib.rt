@@ -10,6 +10,8 @@ mod rect;
 mod standing;
 mod surface;
 mod surfaces;
+#[cfg(test)]
+mod tests;
 mod transform;
 mod view;
 
