@@ -2,6 +2,7 @@
 #![tactic(auto)]
 
 mod area;
+mod commits;
 mod history;
 mod image;
 mod interval;

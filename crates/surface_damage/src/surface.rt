@@ -1,7 +1,6 @@
 // One surface: its requests, and the blocks that a commit fills.
-ghost use Rattle.std.specs.Prelude.{◌≡◌, ℕ, ◌+◌, ◌<◌, ◌||◌, [], ◌∷◌, position, length, take, IsTrue, IfOk, OnOk, OnErr, IfSome};
-ghost use Rattle.std.specs.List.{flat_map, list_any, list_all};
-ghost use Rattle.surface_damage.specs.History.{shows, has_geometry};
+ghost use Rattle.std.specs.Prelude.{◌≡◌, ℕ, ◌+◌, ◌<◌, ◌||◌, [], ◌∷◌, length, take, IsTrue, IfOk, OnOk, OnErr, IfSome};
+ghost use Rattle.std.specs.List.{list_any};
 ghost use Rattle.shm_pools.specs.Buffers.{Fits as FitsIn};
 ghost use Rattle.block_intervals.specs.Sets.{has, Rises};
 ghost use Rattle.surface_damage.specs.Images.{in_pixels, image_of, holds};
@@ -10,6 +9,7 @@ ghost use Rattle.surface_damage.specs.DueBytes.{geometry_of, commits_since, dama
 ghost use Rattle.surface_damage.specs.Filled.{filled_at, few};
 ghost use Rattle.surface_damage.specs.Steps.{fresh, with_attached, with_damage, with_scale, with_transform, content_of, with_commit};
 
+use crate::commits::{add_commits, all_have, newest_with};
 use crate::history::{BufferKey, Commit, Geometry, Shown};
 use crate::image::{Image, add_bytes};
 use crate::rect::Damage;
@@ -275,30 +275,4 @@ fn is_four_byte(format: u32) -> bool
     ensures { result ≡ has_pixels format }
 {
     format == 0 || format == 1
-}
-
-// Adds the blocks of the damage of these commits.
-fn add_commits(blocks: &mut Blocks, view: View, commits: &[Commit]) -> Result<(), AllocError>
-    requires { IsShown view }
-    ensures { OnOk result ((block : ℕ) → has block blocks.new ≡ (has block blocks.old || holds (in_pixels view.image (λ bx by. list_any (covers_in view bx by) (flat_map (λ c. c.damage) commits.now))) block)) }
-{
-    for commit in commits {
-        view.add_damages(blocks, commit.damage())?;
-    }
-    Ok(())
-}
-
-// The place of the newest commit that showed the buffer.
-fn newest_with(commits: &[Commit], key: BufferKey) -> Option<usize>
-    ensures place { result ≡ position (λ c. shows key c.content) commits.now }
-    ensures within { IfSome result (λ place. place < length commits.now) }
-{
-    commits.iter().position(|commit| commit.shows(key))
-}
-
-// Whether all these commits had the geometry.
-fn all_have(commits: &[Commit], geometry: Geometry) -> bool
-    ensures { result ≡ list_all (λ c. has_geometry geometry c.content) commits.now }
-{
-    commits.iter().all(|commit| commit.has_geometry(geometry))
 }

@@ -6,7 +6,7 @@ use Rattle.surface_damage.specs.History.{Committed}
 use Rattle.surface_damage.proofs.ImageLemmas.{or_false}
 use Rattle.surface_damage.proofs.ViewLemmas.{covered, pixels-none}
 use Rattle.surface_damage.proofs.DueLemmas.{more-commits}
-use Rattle.surface_damage.proofs.surface.add_commits.Goals as goal
+use Rattle.surface_damage.proofs.commits.add_commits.Goals as goal
 
 pub loop-commit-init : goal.loop-commit-init
 loop-commit-init c = λ block.
