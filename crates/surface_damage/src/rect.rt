@@ -3,16 +3,22 @@ ghost use Rattle.std.specs.Prelude.{◌≡◌};
 /// A rectangle of `wl_surface.damage` or `wl_surface.damage_buffer`, as the client sent it.
 #[derive(Clone, Copy, Debug, PartialEq, Eq, Drop)]
 pub struct Rect {
+    /// The left edge.
     pub x: i32,
+    /// The top edge.
     pub y: i32,
+    /// The width; 0 or less covers nothing.
     pub w: i32,
+    /// The height; 0 or less covers nothing.
     pub h: i32,
 }
 
 /// One request of damage: in the buffer's coordinates, or in the surface's.
 #[derive(Clone, Copy, Debug, PartialEq, Eq, Drop)]
 pub enum Damage {
+    /// In pixels of the buffer (`wl_surface.damage_buffer`).
     InBuffer(Rect),
+    /// In the surface's own coordinates (`wl_surface.damage`).
     InSurface(Rect),
 }
 
