@@ -4,8 +4,7 @@ use Rattle.block_intervals.specs.Sets.{lies_within}
 use Rattle.surface_damage.specs.declared.rect.Rect.{Rect}
 use Rattle.surface_damage.specs.declared.rect.Side.{Side}
 use Rattle.surface_damage.specs.declared.area.Area.{Area}
-use Rattle.surface_damage.specs.declared.transform.Transform.{Transform}
-use Rattle.surface_damage.specs.Pixels.{Place, place, in_span, in_rect}
+use Rattle.surface_damage.specs.Pixels.{Place, in_span, in_rect}
 use Rattle.surface_damage.specs.Areas.{holds_pixel}
 
 and_comm : (x y : Bool) → (x && y) ≡ (y && x)

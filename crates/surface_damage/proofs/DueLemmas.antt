@@ -1,8 +1,8 @@
 -- From the blocks that the code adds to those that hold a due byte.
-use Rattle.std.proofs.Common.{◌≡◌, ℕ, ◌+◌, ◌*◌, ◌/◌, ◌<◌, ◌≤◌, Bool, true, false, ◌&&◌, ◌||◌, cond, List, [], ◌∷◌, ◌++◌, length, get_or, take, refl, ap, ◌∙◌, sym, arith, Option, Some, None, append_assoc, max, leb, ltb, Result, Ok, Err, OnOk, ⊎_elim, eqb}
+use Rattle.std.proofs.Common.{◌≡◌, ℕ, ◌+◌, ◌*◌, ◌<◌, ◌≤◌, Bool, true, false, ◌||◌, List, [], ◌∷◌, ◌++◌, length, get_or, take, refl, ap, ◌∙◌, sym, arith, Some, None, append_assoc, max, leb, ltb, Result, Ok, Err, OnOk, ⊎_elim, eqb}
 use Rattle.std.specs.Prelude.{unsigned_abs, ℤ, pos, negsuc, ◌≤ℤ◌, ◌<ℤ◌}
 use Rattle.std.proofs.lemmas.Int.{ints}
-use Rattle.std.specs.List.{list_any, flat_map}
+use Rattle.std.specs.List.{flat_map}
 use Rattle.std.proofs.lemmas.Bool.{false≢true, or_left, or_right, eq-eqb, cond-true, cond-false, and_parts, and_from, leb-true, ltb-true, le-leb, lt-ltb}
 use Rattle.std.proofs.lemmas.List.{take_more, append-nil}
 use Rattle.block_intervals.specs.declared.run.Run.{Run}
@@ -12,13 +12,11 @@ use Rattle.shm_pools.specs.declared.buffers.Buffer.{Buffer}
 use Rattle.surface_damage.specs.declared.rect.Damage.{Damage}
 use Rattle.surface_damage.specs.declared.history.BufferKey.{BufferKey}
 use Rattle.surface_damage.specs.declared.history.Geometry.{Geometry}
-use Rattle.surface_damage.specs.declared.image.Image.{Image}
 use Rattle.surface_damage.specs.declared.view.View.{View}
 use Rattle.surface_damage.specs.History.{SurfaceState, Committed}
-use Rattle.surface_damage.specs.Images.{image_of, in_pixels, any_below, holds, meets}
-use Rattle.surface_damage.specs.Views.{covers_in}
+use Rattle.surface_damage.specs.Images.{image_of, in_pixels, holds, meets}
 use Rattle.surface_damage.specs.DueBytes.{geometry_of, commits_since, damage_since, pixel_due_since, pixel_is_due, has_pixels, byte_is_due, is_covered}
-use Rattle.surface_damage.proofs.AnyLemmas.{same-test, Found, any-found, holds-byte, holds-same}
+use Rattle.surface_damage.proofs.AnyLemmas.{same-test, any-found, holds-byte, holds-same}
 use Rattle.surface_damage.proofs.ViewLemmas.{covered, covered-append, or_assoc, pixels-alike}
 
 pub flat_map-append : (xs ys : List Committed) → flat_map (λ (c : Committed). c.damage) (xs ++ ys) ≡ flat_map (λ (c : Committed). c.damage) xs ++ flat_map (λ (c : Committed). c.damage) ys

@@ -1,25 +1,25 @@
 -- The runs of the blocks with a due byte are the filled blocks: every due byte lies before the told size, so their list, up to
 -- the last block of that size, has them all.
-use Rattle.std.proofs.Common.{◌≡◌, ℕ, ◌+◌, ◌-◌, ◌*◌, ◌/◌, ◌%◌, ◌<◌, ◌≤◌, Bool, true, false, ◌&&◌, ◌||◌, cond, List, leb, ltb, eqb, refl, ap, ◌∙◌, sym, arith, subst, Option, Some, None, ⊎_elim, inl, inr}
+use Rattle.std.proofs.Common.{◌≡◌, ℕ, ◌+◌, ◌*◌, ◌<◌, ◌≤◌, Bool, true, ◌&&◌, List, ltb, eqb, ap, ◌∙◌, sym, arith, Option, Some, None, ⊎_elim, inl, inr}
 use Rattle.std.specs.Prelude.{unsigned_abs, ℤ, pos, negsuc, ◌+ℤ◌, ◌*ℤ◌, ◌≤ℤ◌, ◌<ℤ◌}
 use Rattle.std.proofs.lemmas.Int.{ints}
-use Rattle.std.proofs.lemmas.Bool.{false≢true, cases_Bool, or_cases, eqb-true, cond-true, cond-false, and_parts, and_from, ltb-true, lt-ltb}
+use Rattle.std.proofs.lemmas.Bool.{false≢true, cases_Bool, or_cases, eqb-true, cond-true, cond-false, and_parts, and_from, lt-ltb}
 use Rattle.std.proofs.Math.Nat.{mul-le-mul_left}
 use Rattle.block_intervals.specs.declared.run.Run.{Run}
-use Rattle.block_intervals.specs.Sets.{has, Rises, lies_within, runs_of}
+use Rattle.block_intervals.specs.Sets.{has, Rises}
 use Rattle.block_intervals.proofs.LawProofs.{has_runs_of-law}
 use Rattle.shm_pools.specs.declared.buffers.Buffer.{Buffer}
-use Rattle.shm_pools.specs.Buffers.{Fits as FitsIn, FitsImage}
+use Rattle.shm_pools.specs.Buffers.{Fits as FitsIn}
 use Rattle.surface_damage.specs.declared.history.BufferKey.{BufferKey}
 use Rattle.surface_damage.specs.declared.image.Image.{Image}
 use Rattle.surface_damage.specs.declared.standing.Standing.{Standing}
 use Rattle.surface_damage.specs.declared.standing.Standing.TheVariants.{Nothing, Fits}
 use Rattle.surface_damage.specs.History.{SurfaceState}
-use Rattle.surface_damage.specs.Images.{image_of, in_pixels, any_below, holds, LiesIn, row_of, place_in_row}
+use Rattle.surface_damage.specs.Images.{image_of, in_pixels, holds, LiesIn, row_of, place_in_row}
 use Rattle.surface_damage.specs.DueBytes.{has_pixels, byte_is_due, due_if_attached, is_due, told_of, Stands, pixel_is_due}
 use Rattle.surface_damage.specs.Filled.{blocks_of, few, filled_at}
-use Rattle.surface_damage.proofs.AnyLemmas.{same-test, Found, any-found}
-use Rattle.surface_damage.proofs.ImageLemmas.{IsPixelByte, pixel-parts, byte-is, lies-parts}
+use Rattle.surface_damage.proofs.AnyLemmas.{same-test, any-found}
+use Rattle.surface_damage.proofs.ImageLemmas.{pixel-parts, byte-is, lies-parts}
 
 -- an image that fits lies in its file
 lies-numbers : (offset width height stride : ℤ) (told : ℕ) → pos 0 ≤ℤ offset → pos 0 <ℤ width → pos 0 <ℤ height → (pos 4 *ℤ width) ≤ℤ stride → (offset +ℤ stride *ℤ height) ≤ℤ pos told → LiesIn (record { offset = unsigned_abs offset; width = unsigned_abs width; height = unsigned_abs height; stride = unsigned_abs stride }) told

@@ -2,15 +2,15 @@
 --
 -- A byte of a pixel is `offset + stride * row + place`, with a place before the end of the row's pixels, so its row and its
 -- place are quotient and remainder by the stride. The columns of an area are the places of its bytes by four.
-use Rattle.std.proofs.Common.{◌≡◌, ℕ, ◌+◌, ◌-◌, ◌*◌, ◌/◌, ◌%◌, ◌<◌, ◌≤◌, Bool, true, false, ◌&&◌, ◌||◌, max, leb, ltb, refl, ap, ◌∙◌, sym, arith, subst, ⊎_elim}
-use Rattle.std.proofs.lemmas.Bool.{false≢true, and_parts, and_from, leb-true, ltb-true, le-leb, lt-ltb, false_from_ne_true}
-use Rattle.std.proofs.lemmas.Nat.{div-mul-add, mod-mul-add, div-add-mod', mod_below}
-use Rattle.block_intervals.specs.Sets.{lies_within, has}
+use Rattle.std.proofs.Common.{◌≡◌, ℕ, ◌+◌, ◌-◌, ◌*◌, ◌/◌, ◌%◌, ◌<◌, ◌≤◌, Bool, true, false, ◌&&◌, ◌||◌, max, refl, ap, ◌∙◌, sym, arith}
+use Rattle.std.proofs.lemmas.Bool.{and_parts, and_from, leb-true, ltb-true, le-leb, lt-ltb}
+use Rattle.std.proofs.lemmas.Nat.{div-mul-add, mod-mul-add, div-add-mod'}
+use Rattle.block_intervals.specs.Sets.{lies_within}
 use Rattle.surface_damage.specs.declared.area.Area.{Area}
 use Rattle.surface_damage.specs.declared.image.Image.{Image}
 use Rattle.surface_damage.specs.Areas.{holds_pixel, IsWithin}
 use Rattle.surface_damage.specs.Images.{LiesIn, row_of, place_in_row, in_pixels, any_below, holds, meets}
-use Rattle.surface_damage.proofs.AnyLemmas.{same-test, Found, any-found, any-from, any-more, any-none, any-same, holds-byte, holds-same}
+use Rattle.surface_damage.proofs.AnyLemmas.{same-test, any-found, any-from, any-more, any-none, holds-byte, holds-same}
 
 -- what the test of a byte says
 pub record IsPixelByte (image : Image) (test : ℕ → ℕ → Bool) (at : ℕ) : Type 0 where

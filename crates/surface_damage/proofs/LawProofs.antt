@@ -3,29 +3,25 @@
 -- The blocks that hold a due byte are below the end of the file, so they are in the list that the filled blocks are the runs of,
 -- and a hull has them too. The last commit with a buffer is asked for only where it is one of the newest seven, and then only
 -- commits after it are; so a list cut after seven gives the same answer at each question.
-use Rattle.std.proofs.Common.{◌≡◌, ℕ, zero, suc, ◌+◌, ◌-◌, ◌*◌, ◌/◌, ◌%◌, ◌<◌, ◌≤◌, Bool, true, false, ◌&&◌, cond, min, List, [], ◌∷◌, ◌++◌, length, take, leb, ltb, refl, ap, ◌∙◌, sym, arith, Option, Some, None, ⊎_elim, not}
+use Rattle.std.proofs.Common.{◌≡◌, ℕ, zero, suc, ◌+◌, ◌*◌, ◌/◌, ◌<◌, ◌≤◌, Bool, true, ◌&&◌, cond, min, List, [], ◌∷◌, ◌++◌, length, take, refl, ap, ◌∙◌, sym, arith, Option, Some, None, ⊎_elim, not}
 use Rattle.std.specs.Prelude.{position, nat_le, nat_lt, unsigned_abs}
-use Rattle.std.specs.List.{list_all, flat_map, prefix_len, position_or_len, filter}
-use Rattle.std.proofs.lemmas.Bool.{false≢true, cases_Bool, cases_lt, cond-true, cond-false, and_parts, and_from, ltb-true, lt-ltb, le-ltb, le-leb, leb-true}
+use Rattle.std.specs.List.{list_all, flat_map, prefix_len, position_or_len}
+use Rattle.std.proofs.lemmas.Bool.{cases_Bool, cases_lt, cond-true, cond-false, and_parts, and_from, ltb-true, lt-ltb, le-ltb, le-leb}
 use Rattle.std.proofs.lemmas.List.{take-take, length-take}
-use Rattle.std.proofs.lemmas.List.Sums.{prefix_len-le-length}
 use Rattle.block_intervals.specs.declared.run.Run.{Run}
-use Rattle.block_intervals.specs.Sets.{has, Rises, lies_within, hull_of, runs_of}
-use Rattle.block_intervals.specs.Statements.{counted, IsBetween}
+use Rattle.block_intervals.specs.Sets.{has, Rises, lies_within, hull_of}
 use Rattle.block_intervals.proofs.LawProofs.{runs_of-has, runs_of-rises, has_hull-law}
 use Rattle.shm_pools.specs.declared.buffers.Buffer.{Buffer}
-use Rattle.surface_damage.specs.declared.rect.Damage.{Damage}
 use Rattle.surface_damage.specs.declared.history.BufferKey.{BufferKey}
 use Rattle.surface_damage.specs.declared.history.Geometry.{Geometry}
-use Rattle.surface_damage.specs.declared.standing.Standing.{Standing}
 use Rattle.surface_damage.specs.declared.standing.Standing.TheVariants.{Nothing, Fits}
 use Rattle.surface_damage.specs.History.{SurfaceState, Committed, shows, has_geometry}
-use Rattle.surface_damage.specs.Images.{holds, in_pixels, image_of, row_of, place_in_row}
-use Rattle.surface_damage.specs.DueBytes.{geometry_of, is_due, told_of, Stands, if_enough, commits_since, damage_since, is_covered, pixel_due_since, pixel_is_due, has_pixels, byte_is_due, due_if_attached}
-use Rattle.surface_damage.specs.Filled.{few, runs_due, filled_at, blocks_of}
+use Rattle.surface_damage.specs.Images.{holds, image_of, row_of, place_in_row}
+use Rattle.surface_damage.specs.DueBytes.{geometry_of, is_due, told_of, if_enough, commits_since, is_covered, pixel_due_since, pixel_is_due, has_pixels, due_if_attached}
+use Rattle.surface_damage.specs.Filled.{few, runs_due, blocks_of}
 use Rattle.surface_damage.specs.Statements.{DueBytesAreFilled, FilledBlocksAreDue, OlderCommitsAreIdle}
 use Rattle.surface_damage.proofs.AnyLemmas.{holds-byte}
-use Rattle.surface_damage.proofs.ImageLemmas.{lies-parts, lies-from}
+use Rattle.surface_damage.proofs.ImageLemmas.{lies-from}
 use Rattle.surface_damage.proofs.FilledLemmas.{due-below}
 
 -- a block of the set is in what is kept of it

@@ -1,5 +1,5 @@
 -- The blocks of some damage, one request after another.
-use Rattle.std.proofs.Common.{◌≡◌, ℕ, ◌+◌, ◌*◌, ◌/◌, ◌<◌, Bool, true, false, ◌&&◌, ◌||◌, List, [], ◌∷◌, ◌++◌, length, get_or, take, refl, ap, ◌∙◌, sym, arith}
+use Rattle.std.proofs.Common.{◌≡◌, ℕ, ◌+◌, ◌*◌, ◌/◌, ◌<◌, Bool, true, false, ◌&&◌, ◌||◌, List, [], ◌∷◌, ◌++◌, length, get_or, take, refl, ap, ◌∙◌, sym}
 use Rattle.std.specs.Prelude.{nat_le, nat_lt}
 use Rattle.std.specs.List.{list_any}
 use Rattle.std.proofs.lemmas.Bool.{false≢true}
@@ -8,10 +8,10 @@ use Rattle.std.proofs.lemmas.List.Folds.{list_any-append}
 use Rattle.surface_damage.specs.declared.rect.Damage.{Damage}
 use Rattle.surface_damage.specs.declared.image.Image.{Image}
 use Rattle.surface_damage.specs.declared.view.View.{View}
-use Rattle.surface_damage.specs.Images.{in_pixels, any_below, holds, row_of, place_in_row}
+use Rattle.surface_damage.specs.Images.{in_pixels, holds, row_of, place_in_row}
 use Rattle.surface_damage.specs.Views.{covers_in}
 use Rattle.surface_damage.proofs.AnyLemmas.{any-none, holds-same, holds-either}
-use Rattle.surface_damage.proofs.ImageLemmas.{IsPixelByte, pixel-parts, or_false}
+use Rattle.surface_damage.proofs.ImageLemmas.{pixel-parts, or_false}
 
 -- either of two tests of pixels
 spread : (x y z p q : Bool) → (x && (y && (z && (p || q)))) ≡ ((x && (y && (z && p))) || (x && (y && (z && q))))

@@ -1,5 +1,5 @@
 -- What each request does to a surface, from Wayland's core protocol (wl_surface), and to the surface of an id among many.
-use Rattle.std.specs.Prelude.{ℕ, Bool, List, [], ◌∷◌, ◌++◌, Option, None, Some, ℤ, if◌then◌else◌, take}
+use Rattle.std.specs.Prelude.{ℕ, List, [], ◌∷◌, ◌++◌, Option, None, ℤ, if◌then◌else◌, take}
 use Rattle.std.specs.Option.{option_map}
 use Rattle.std.specs.Ordering.{nat_cmp}
 use Rattle.std.specs.Map.{lookup}

@@ -1,4 +1,4 @@
-use Rattle.std.proofs.Common.{◌≡◌, ◌∙◌, ◌||◌, ap, sym}
+use Rattle.std.proofs.Common.{◌∙◌, ◌||◌, ap, sym}
 use Rattle.block_intervals.specs.Sets.{has}
 use Rattle.surface_damage.proofs.ImageLemmas.{rows-hold, no-columns, no-rows, or_false, more-rows}
 use Rattle.surface_damage.proofs.image.Image.add_area.Goals as goal

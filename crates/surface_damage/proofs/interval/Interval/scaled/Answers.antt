@@ -1,4 +1,4 @@
-use Rattle.std.proofs.Common.{◌≡◌, ◌∙◌, ap, ◌*◌, min, arith}
+use Rattle.std.proofs.Common.{◌≡◌, ◌∙◌, ap, ◌*◌, min}
 use Rattle.block_intervals.specs.Sets.{lies_within}
 use Rattle.surface_damage.proofs.IntervalLemmas.{lies-scaled}
 use Rattle.surface_damage.proofs.interval.Interval.scaled.Goals as goal

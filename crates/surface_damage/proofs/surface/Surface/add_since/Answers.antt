@@ -1,4 +1,4 @@
-use Rattle.std.proofs.Common.{◌≡◌, ◌∙◌, ap}
+use Rattle.std.proofs.Common.{◌∙◌, ap}
 use Rattle.surface_damage.specs.History.{SurfaceState}
 use Rattle.surface_damage.proofs.DueLemmas.{since-after}
 use Rattle.surface_damage.proofs.surface.Surface.add_since.Goals as goal

@@ -1,4 +1,4 @@
-use Rattle.std.proofs.Common.{◌≡◌, ◌∙◌, ap, sym, false, ℕ}
+use Rattle.std.proofs.Common.{◌∙◌, ap, sym}
 use Rattle.block_intervals.specs.Sets.{has}
 use Rattle.surface_damage.specs.DueBytes.{is_due}
 use Rattle.surface_damage.specs.Images.{holds}

@@ -1,4 +1,4 @@
-use Rattle.std.proofs.Common.{◌≡◌, ◌∙◌, sym, ap}
+use Rattle.std.proofs.Common.{◌∙◌, sym, ap}
 use Rattle.std.specs.Option.{option_copied_mut}
 use Rattle.surface_damage.specs.Steps.{changed, with_damage}
 use Rattle.surface_damage.proofs.StepLemmas.{changed-is, same-is, on-ok, on-err}

@@ -1,4 +1,4 @@
-use Rattle.std.proofs.Common.{◌≡◌, ◌∙◌, ◌||◌, ap, sym, arith}
+use Rattle.std.proofs.Common.{◌∙◌, ◌||◌, ap, sym}
 use Rattle.std.proofs.lemmas.List.{take_all}
 use Rattle.block_intervals.specs.Sets.{has}
 use Rattle.surface_damage.proofs.ImageLemmas.{or_false}
