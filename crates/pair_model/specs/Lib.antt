@@ -1,0 +1,6 @@
+pub mod Lines
+pub mod Wire
+pub mod LinkFaults
+pub mod Quiet
+pub mod Cases
+pub mod Laws
