@@ -8,3 +8,6 @@ pub mod Refusals
 pub mod NoRefusal
 pub mod Done
 pub mod Cases
+pub mod LastLine
+pub mod Moves
+pub mod Standing

@@ -4,4 +4,7 @@
 
 mod laws;
 
-pub use laws::{each_once, none_lost, quiet_is_done, same_by_cases, unspoiled};
+pub use laws::{
+    each_once, idle_has_no_front, none_lost, quiet_is_done, same_by_cases, standing_is_wire,
+    steps_stand, unspoiled, up_stands,
+};
