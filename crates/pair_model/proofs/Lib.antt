@@ -11,3 +11,4 @@ pub mod Cases
 pub mod LastLine
 pub mod Moves
 pub mod Standing
+pub mod Hearing

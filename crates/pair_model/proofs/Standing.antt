@@ -184,25 +184,25 @@ made_wire token side more wire = record {
 -- ---- the frames seen on all connections
 
 -- those of the connection that is up, beside those of the earlier ones
-seen_with : ℕ → List Frame → (ℕ → List Frame) → ℕ → List Frame
+unfoldable pub seen_with : ℕ → List Frame → (ℕ → List Frame) → ℕ → List Frame
 seen_with connection here earlier c = cond (eqb c connection) here (earlier c)
 
-with_here : (connection : ℕ) (here : List Frame) (earlier : ℕ → List Frame) (c : ℕ) → c ≡ connection → seen_with connection here earlier c ≡ here
+pub with_here : (connection : ℕ) (here : List Frame) (earlier : ℕ → List Frame) (c : ℕ) → c ≡ connection → seen_with connection here earlier c ≡ here
 unfolding seen_with
 with_here connection here earlier c e = cond-true (eqb c connection) here (earlier c) (eq-eqb c connection e)
 
-with_other : (connection : ℕ) (here : List Frame) (earlier : ℕ → List Frame) (c : ℕ) → c ≢ connection → seen_with connection here earlier c ≡ earlier c
+pub with_other : (connection : ℕ) (here : List Frame) (earlier : ℕ → List Frame) (c : ℕ) → c ≢ connection → seen_with connection here earlier c ≡ earlier c
 unfolding seen_with
 with_other connection here earlier c apart = cond-false (eqb c connection) here (earlier c) (ne_eqb c connection apart)
 
-accepted_with : (connection : ℕ) (here : List Frame) (earlier : ℕ → List Frame) (c : ℕ) → c ≤ connection → accepted_below (seen_with connection here earlier) c ≡ accepted_below earlier c
+pub accepted_with : (connection : ℕ) (here : List Frame) (earlier : ℕ → List Frame) (c : ℕ) → c ≤ connection → accepted_below (seen_with connection here earlier) c ≡ accepted_below earlier c
 accepted_with connection here earlier zero l = refl
 accepted_with connection here earlier (suc c) l =
     let before : accepted_below (seen_with connection here earlier) c ≡ accepted_below earlier c = accepted_with connection here earlier c (omega arith) in
     let same : seen_with connection here earlier c ≡ earlier c = with_other connection here earlier c (λ e. omega arith) in
     cc
 
-told_with : (connection : ℕ) (here : List Frame) (earlier : ℕ → List Frame) (c : ℕ) → c ≤ connection → told_below (seen_with connection here earlier) c ≡ told_below earlier c
+pub told_with : (connection : ℕ) (here : List Frame) (earlier : ℕ → List Frame) (c : ℕ) → c ≤ connection → told_below (seen_with connection here earlier) c ≡ told_below earlier c
 told_with connection here earlier zero l = refl
 told_with connection here earlier (suc c) l =
     let before : told_below (seen_with connection here earlier) c ≡ told_below earlier c = told_with connection here earlier c (omega arith) in
@@ -211,7 +211,7 @@ told_with connection here earlier (suc c) l =
 
 -- ---- what stands gives what was written and read
 
-same_reads : {stop other : Option ℕ} {read bytes : List ℕ} {seen frames : List Frame} → stop ≡ other → read ≡ bytes → seen ≡ frames → Reads other bytes frames → Reads stop read seen
+pub same_reads : {stop other : Option ℕ} {read bytes : List ℕ} {seen frames : List Frame} → stop ≡ other → read ≡ bytes → seen ≡ frames → Reads other bytes frames → Reads stop read seen
 same_reads {stop} {other} {read} {bytes} {seen} {frames} s b f h =
     subst (λ (o : Option ℕ). Reads o read seen) (sym s) (subst (λ (bs : List ℕ). Reads other bs seen) (sym b) (subst (λ (fs : List Frame). Reads other bytes fs) (sym f) h))
 

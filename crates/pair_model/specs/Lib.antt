@@ -6,3 +6,5 @@ pub mod Cases
 pub mod Steps
 pub mod Laws
 pub mod StepLaws
+pub mod Plain
+pub mod Turns
