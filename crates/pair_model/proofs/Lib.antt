@@ -1,0 +1,14 @@
+pub mod Rows
+pub mod Fronts
+pub mod Came
+pub mod Seen
+pub mod Inductions
+pub mod Once
+pub mod Refusals
+pub mod NoRefusal
+pub mod Done
+pub mod Cases
+pub mod LastLine
+pub mod Moves
+pub mod Standing
+pub mod Hearing

@@ -1,0 +1,11 @@
+use Rattle.pair_model.proofs.Standing.{stands_wire, stopped_wire, made_wire}
+use Rattle.pair_model.proofs.laws.standing_is_wire.Goals as goal
+
+pub returns-clause-stands : goal.returns-clause-stands
+returns-clause-stands c = stands_wire
+
+pub returns-clause-stopped : goal.returns-clause-stopped
+returns-clause-stopped c = stopped_wire
+
+pub returns-clause-made : goal.returns-clause-made
+returns-clause-made c = made_wire

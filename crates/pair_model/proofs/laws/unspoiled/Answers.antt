@@ -1,0 +1,5 @@
+use Rattle.pair_model.proofs.NoRefusal.{unspoiled}
+use Rattle.pair_model.proofs.laws.unspoiled.Goals as goal
+
+pub returns : goal.returns
+returns c = unspoiled
