@@ -1,0 +1,6 @@
+pub mod Counts
+pub mod Pieces
+pub mod Lines
+pub mod Kept
+pub mod KeptLaws
+pub mod MemoryForms
