@@ -1,3 +1,4 @@
 pub mod DecimalLemmas
+pub mod MovingLemmas
 pub mod PieceLemmas
 pub mod ReadingLemmas

@@ -1,6 +1,9 @@
 pub mod Decimal
 pub mod Grammar
 pub mod Hexadecimal
+pub mod Moving
 pub mod Pieces
 pub mod Reading
+pub mod Report
 pub mod Scripts
+pub mod Words

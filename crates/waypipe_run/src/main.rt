@@ -5,8 +5,12 @@ mod causes;
 mod decimal;
 mod hexadecimal;
 mod pieces;
+mod reading;
+mod report;
 mod script_line;
 mod script;
 mod steps;
+mod words;
+mod writing;
 
 fn main() {}
