@@ -2,3 +2,4 @@ pub mod DecimalLemmas
 pub mod MovingLemmas
 pub mod PieceLemmas
 pub mod ReadingLemmas
+pub mod WordLemmas

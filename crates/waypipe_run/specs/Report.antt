@@ -3,9 +3,13 @@
 use Rattle.std.specs.Prelude.{ℕ, ◌+◌, ◌*◌, List, [], ◌∷◌, ◌++◌, length, codes, decimal}
 use Rattle.waypipe_run.specs.Hexadecimal.{hexadecimal}
 
+-- what the line of a message begins with
+unfoldable pub got_prefix : List ℕ
+got_prefix = codes "got compositor "
+
 -- the line of one message that was received
 abbrev pub got : List ℕ → List ℕ
-got message = codes "got compositor " ++ (hexadecimal message ++ (10 ∷ []))
+got message = got_prefix ++ (hexadecimal message ++ (10 ∷ []))
 
 abbrev pub got_all : List (List ℕ) → List ℕ
 got_all [] = []

@@ -1,7 +1,7 @@
 //! The report of a replay.
 ghost use Rattle.std.specs.Prelude.{◌≡◌, ◌++◌, ◌∷◌, [], length, string_bytes, codes, OnOk, IfOk};
 ghost use Rattle.waypipe_run.specs.Hexadecimal.{hexadecimal};
-ghost use Rattle.waypipe_run.specs.Report.{got, got_all, counts, report};
+ghost use Rattle.waypipe_run.specs.Report.{got, got_all, got_prefix, counts, report};
 
 use crate::hexadecimal::push_hexadecimal;
 use std::alloc::{AllocError, Global};
@@ -39,8 +39,16 @@ fn push_all(text: &mut Vec<u8>, received: &[Message]) -> Result<(), AllocError>
 fn push_got(text: &mut Vec<u8>, message: &[u8]) -> Result<(), AllocError>
     ensures { OnOk result (text.new.items ≡ text.old.items ++ got message.now) }
 {
-    text.extend_from_slice(b"got compositor ")?;
+    push_prefix(text)?;
     push_hexadecimal(text, message)?;
     text.push(b'\n')?;
     Ok(())
+}
+
+/// Appends what the line of a message begins with.
+#[tactic(auto, unfolding(crate::specs::Report::got_prefix))]
+fn push_prefix(text: &mut Vec<u8>) -> Result<(), AllocError>
+    ensures { OnOk result (text.new.items ≡ text.old.items ++ got_prefix) }
+{
+    text.extend_from_slice(b"got compositor ")
 }
