@@ -1,9 +1,13 @@
 pub mod Decimal
+pub mod FarSteps
 pub mod Grammar
 pub mod Hexadecimal
 pub mod Moving
+pub mod NearSteps
 pub mod Pieces
 pub mod Reading
 pub mod Report
+pub mod Rows
 pub mod Scripts
+pub mod Sides
 pub mod Words

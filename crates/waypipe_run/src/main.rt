@@ -3,7 +3,10 @@
 
 mod causes;
 mod decimal;
+mod far;
+mod halts;
 mod hexadecimal;
+mod near;
 mod pieces;
 mod reading;
 mod report;
