@@ -4,5 +4,7 @@ pub mod MovingLemmas
 pub mod NearLemmas
 pub mod PieceLemmas
 pub mod ReadingLemmas
+pub mod RoundLemmas
 pub mod RowLemmas
+pub mod RunLemmas
 pub mod WordLemmas

@@ -4,10 +4,12 @@ pub mod Grammar
 pub mod Hexadecimal
 pub mod Moving
 pub mod NearSteps
+pub mod Outcomes
 pub mod Pieces
 pub mod Reading
 pub mod Report
 pub mod Rows
+pub mod Runs
 pub mod Scripts
 pub mod Sides
 pub mod Words

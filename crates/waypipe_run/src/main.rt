@@ -11,6 +11,8 @@ mod pieces;
 mod reading;
 mod report;
 mod script_line;
+mod rounds;
+mod runs;
 mod script;
 mod steps;
 mod words;
