@@ -2,6 +2,7 @@ pub mod CutLemmas
 pub mod DecimalLemmas
 pub mod MovingLemmas
 pub mod NearLemmas
+pub mod OutcomeLemmas
 pub mod PieceLemmas
 pub mod ReadingLemmas
 pub mod RoundLemmas

@@ -49,10 +49,10 @@ pub record FirstOf (frame : Frame) (more : List ℕ) (messages : List (List ℕ)
   pub split : messages ≡ message ∷ others
 
 -- a message makes a frame
-message_frame : (message : List ℕ) → IsMessage message → IsFrame (Protocol message)
+pub message_frame : (message : List ℕ) → IsMessage message → IsFrame (Protocol message)
 message_frame message whole = record { fields = (whole.has_header, one_rest message whole); fits = omega (arith, whole.is_bounded) }
 
-spelling_long : (frame : Frame) → IsFrame frame → 4 ≤ length (spelling frame)
+pub spelling_long : (frame : Frame) → IsFrame frame → 4 ≤ length (spelling frame)
 spelling_long frame is = omega (arith, length-spelling frame)
 
 -- the first frame of a row has the first message

@@ -3,7 +3,8 @@
 use Rattle.std.specs.Prelude.{◌≡◌, ◌≢◌, ℕ, ◌+◌, ◌≤◌, Bool, true, false, ◌||◌, if◌then◌else◌, List, [], ◌∷◌, ◌++◌, Option, Some, None, Result, Ok, Err, length}
 use Rattle.wl_wire.specs.declared.faults.WireFault.{WireFault}
 use Rattle.wl_wire.specs.Wire.{cut, cut_fault}
-use Rattle.wp_outside.specs.Lines.{Line, fresh_line, fresh_lane}
+use Rattle.wp_outside.specs.Lines.{Line, IsFront, fresh_line, fresh_lane}
+use Rattle.transfer_frames.specs.Front.{front}
 use Rattle.waypipe_run.specs.Grammar.{Act, Put, Take, Connect, Up, Drain}
 use Rattle.waypipe_run.specs.Rows.{frames_of, AreMessages}
 
@@ -39,6 +40,38 @@ pub record GoesUp (line : ℕ → Line) : Type 0 where
   pub down : (line 1).down ≡ fresh_lane
   pub others : (connection : ℕ) → connection ≢ 1 → line connection ≡ fresh_line
 
--- these messages were decoded from bytes: one frame each, in order, and then a rest
-abbrev pub DecodedFrom : List ℕ → List (List ℕ) → Type 0
-DecodedFrom bytes messages = AreMessages messages × ((rest : List ℕ) × (bytes ≡ frames_of messages ++ rest))
+-- these messages were decoded from bytes: one frame each, in order, and then a rest with no whole frame in front
+pub record DecodedFrom (bytes : List ℕ) (messages : List (List ℕ)) : Type 0 where
+  pub whole : AreMessages messages
+  pub rest : List ℕ
+  pub row : bytes ≡ frames_of messages ++ rest
+  pub part : front rest ≡ Ok None
+
+-- a replay that went through: the near side took every message, and the compositor received each, once and in order
+pub record WentThrough (acts : List Act) (line : ℕ → Line) (connections sent : ℕ) (received : List (List ℕ)) : Type 0 where
+  -- no size of a message is at fault
+  pub fine : cut_fault (put_bytes acts) ≡ None
+  -- the compositor received the messages that the application put on its wire
+  pub each_once : received ≡ cut (put_bytes acts)
+  pub all_taken : sent ≡ length (cut (put_bytes acts))
+  -- what the link tells as pushed is one frame for each message, in order
+  pub pushed : (line 1).up.pushed ≡ frames_of (cut (put_bytes acts))
+  -- what was received was decoded from what the link tells as pulled
+  pub decoded : DecodedFrom (line 1).up.pulled received
+  pub goes_up : GoesUp line
+  -- the connection was opened by a line, or where there was a message
+  pub counted : connections ≡ (if connects acts || is_some_message (cut (put_bytes acts)) then 1 else 0)
+  pub opened : connections ≡ (if (line 1).was_opened then 1 else 0)
+
+-- a replay that met a size at fault: the near side took the messages before it, and the compositor received some of them
+pub record StoppedAt (fault : WireFault) (acts : List Act) (line : ℕ → Line) (connections sent : ℕ) (received : List (List ℕ)) : Type 0 where
+  -- the cut of all bytes stops at this size
+  pub met : cut_fault (put_bytes acts) ≡ Some fault
+  pub all_before : sent ≡ length (cut (put_bytes acts))
+  -- what the link tells as pushed is a front of the frames of the messages before it
+  pub pushed : IsFront (line 1).up.pushed (frames_of (cut (put_bytes acts)))
+  -- what was received was decoded from what the link tells as pulled
+  pub decoded : DecodedFrom (line 1).up.pulled received
+  pub all_pulled : (line 1).up.pulled ≡ (line 1).up.pushed
+  pub goes_up : GoesUp line
+  pub opened : connections ≡ (if (line 1).was_opened then 1 else 0)

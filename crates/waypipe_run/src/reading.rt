@@ -8,8 +8,8 @@ use wp_outside::{Source, Taken};
 /// The greatest count of bytes that the program reads.
 const MOST_INPUT: usize = 16_777_216;
 
-/// The greatest count of bytes that one read asks for.
-const PIECE: usize = 65_536;
+/// The greatest piece that is read, fed or pulled at once.
+pub const PIECE: usize = 65_536;
 
 /// Why the input was not read.
 #[derive(Debug, Drop)]
@@ -42,7 +42,7 @@ pub fn read_all<S: Source>(alloc: Global, input: &mut S) -> Result<Vec<u8>, Read
 }
 
 /// So many zeros.
-fn zeros(alloc: Global, count: usize) -> Result<Vec<u8>, AllocError>
+pub fn zeros(alloc: Global, count: usize) -> Result<Vec<u8>, AllocError>
     ensures { IfOk result (λ zeros. vec_len zeros ≡ count) }
 {
     vec![in alloc; 0u8; count]
