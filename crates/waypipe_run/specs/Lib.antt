@@ -16,4 +16,5 @@ pub mod Runs
 pub mod Scripts
 pub mod Sides
 pub mod Texts
+pub mod Top
 pub mod Words

@@ -1,6 +1,12 @@
 -- What a replay answers, and how it stands for its outcome.
-use Rattle.std.specs.Prelude.{◌≡◌, ℕ, ◌+◌, Bool, false, ◌||◌, if◌then◌else◌, List, Option, Some, None, Result, Ok, Err, length}
+use Rattle.std.specs.Prelude.{◌≡◌, ℕ, ◌+◌, Bool, false, ◌||◌, if◌then◌else◌, List, Option, Some, None, Result, Ok, Err, ◌++◌, length}
+use Rattle.wl_wire.specs.declared.faults.ObjectFault.TheVariants.{Wire}
 use Rattle.wp_outside.specs.Lines.{Line}
+use Rattle.wp_outside.specs.declared.kinds.Side.TheVariants.{Near}
+use Rattle.waypipe_run.specs.Texts.{drained_text, peer_text}
+use Rattle.waypipe_run.specs.declared.causes.PeerCause.TheVariants.{Object}
+use Rattle.waypipe_run.specs.declared.status.Status.{Status}
+use Rattle.waypipe_run.specs.declared.status.Status.TheVariants as status
 use Rattle.waypipe_run.specs.Grammar.{Act}
 use Rattle.waypipe_run.specs.Outcomes.{WentThrough, StoppedAt}
 use Rattle.waypipe_run.specs.Reading.{put_by_all}
@@ -43,3 +49,9 @@ EndsBy (ends.Frame cause) acts line connections sent received = ⊥
 -- the outcome of a replay
 abbrev pub Ended : Replayed → List Act → (ℕ → Line) → Type 0
 Ended replayed acts line = EndsBy replayed.end acts line replayed.connections replayed.sent replayed.received.items
+
+-- the status and the text that an end gives, behind the report
+abbrev pub EndsReport : Status → End → ℕ → List ℕ → List ℕ → Type 0
+EndsReport answer ends.Drained sent report text = (answer ≡ status.Done) × (text ≡ report ++ drained_text)
+EndsReport answer (ends.Peer fault) sent report text = (answer ≡ status.Peer Near sent (Object (Wire fault))) × (text ≡ report ++ peer_text Near sent (Object (Wire fault)))
+EndsReport answer (ends.Frame cause) sent report text = Unit {0}

@@ -1,6 +1,7 @@
 //! A pair of Wayland proxies, replayed from a script.
 #![tactic(auto)]
 
+mod answers;
 mod causes;
 mod decimal;
 mod far;
@@ -9,6 +10,7 @@ mod hexadecimal;
 mod names;
 mod near;
 mod pieces;
+mod plain;
 mod reading;
 mod replays;
 mod report;
