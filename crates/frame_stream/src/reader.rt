@@ -99,3 +99,6 @@ impl FrameReader {
         }
     }
 }
+
+#[cfg(test)]
+mod tests;

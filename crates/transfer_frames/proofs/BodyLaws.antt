@@ -1,8 +1,7 @@
 -- The bodies of the twelve types: what is written is read again and passes the tests, and what passes them was written so.
-use Rattle.std.proofs.Common.{◌≡◌, ◌≢◌, ℕ, zero, suc, ◌+◌, ◌-◌, ◌*◌, ◌/◌, ◌%◌, ◌^◌, ◌<◌, ◌≤◌, ◌==◌, Bool, true, false, not, ◌&&◌, nat_lt, nat_le, List, [], ◌∷◌, ◌++◌, length, take, drop, map, refl, sym, ap, subst, ◌∙◌, append_assoc, arith, rules}
-use Rattle.std.specs.Prelude.{ℤ, pos, FitsSigned}
+use Rattle.std.proofs.Common.{◌≡◌, ℕ, ◌+◌, ◌-◌, ◌*◌, ◌%◌, ◌<◌, ◌≤◌, ◌==◌, true, false, ◌&&◌, nat_lt, nat_le, List, [], ◌∷◌, ◌++◌, length, take, drop, map, refl, sym, ap, ◌∙◌, arith}
+use Rattle.std.specs.Prelude.{ℤ, FitsSigned}
 use Rattle.std.specs.Int.{w32, cast_signed, cast_unsigned}
-use Rattle.std.specs.List.{flat_map, list_any, list_all, AllByRecursion}
 use Rattle.std.proofs.lemmas.Bool.{ne_eqb, eqb-true, eqb-false, eq-eqb, leb-true, le-leb, ltb-true, lt-ltb, and_parts, and_from}
 use Rattle.std.proofs.lemmas.List.{append-nil, take_at, drop_at, drop-drop, length-append, length-take, length-drop, take-append-drop, nil_from_length}
 use Rattle.wl_wire.specs.Wire.{cut_rest}
@@ -11,10 +10,10 @@ use Rattle.transfer_frames.specs.declared.frame.Frame.TheVariants as frames
 use Rattle.transfer_frames.specs.declared.kinds.FrameType.{FrameType}
 use Rattle.transfer_frames.specs.declared.kinds.FrameType.TheVariants.{Protocol, Inject, OpenFile, ExtendFile, Fill, OpenPipe, PipeTransfer, PipeShutR, PipeShutW, Ack, Restart, Close}
 use Rattle.transfer_frames.specs.Numbers.{word_bytes, word_of, long_bytes, long_of, rid_bytes, rid_of, words_of, IsWord, IsLong, IsRid, IsBytes}
-use Rattle.transfer_frames.specs.Grammar.{type_of, body, size, IsRange, HasFields}
+use Rattle.transfer_frames.specs.Grammar.{type_of, body, size, HasFields}
 use Rattle.transfer_frames.specs.Faults.{has_length, has_zero_rid, has_range, has_messages}
 use Rattle.transfer_frames.specs.Front.{value}
-use Rattle.transfer_frames.proofs.NumberLaws.{IsBytes-drop, IsBytes-take, length-word_bytes, word_of-word_bytes, word_of-below, word_parts, word_bytes-word_of, length-long_bytes, long_of-long_bytes, long_of-below, long_bytes-long_of, length-rid_bytes, word_of-rid_bytes, rid_of-rid_bytes, rid_parts, cast_not_zero, IsRid-rid_of}
+use Rattle.transfer_frames.proofs.NumberLaws.{IsBytes-drop, length-word_bytes, word_of-word_bytes, word_of-below, word_parts, length-long_bytes, long_of-long_bytes, long_of-below, long_bytes-long_of, length-rid_bytes, word_of-rid_bytes, rid_of-rid_bytes, rid_parts, cast_not_zero, IsRid-rid_of}
 use Rattle.transfer_frames.proofs.RidLaws.{length-rids, rids_again, rids_not_zero, rids_spelled, rids_are}
 
 -- ---- fields behind others
@@ -63,7 +62,7 @@ restart_number : (token : List ℕ) (connection received : ℕ) → length token
 restart_number token connection received len =
     sym (drop-drop 4 16 (token ++ (word_bytes connection ++ long_bytes received))) ∙ ap (drop 4) (drop_at token (word_bytes connection ++ long_bytes received) 16 len) ∙ after_word connection (long_bytes received)
 
-restart_length : (token : List ℕ) (connection received : ℕ) → length token ≡ 16 → length (token ++ (word_bytes connection ++ long_bytes received)) ≡ 28
+pub restart_length : (token : List ℕ) (connection received : ℕ) → length token ≡ 16 → length (token ++ (word_bytes connection ++ long_bytes received)) ≡ 28
 restart_length token connection received len =
     omega (arith, length-append token (word_bytes connection ++ long_bytes received), length-append (word_bytes connection) (long_bytes received), length-word_bytes connection, length-long_bytes received)
 

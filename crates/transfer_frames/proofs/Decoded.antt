@@ -1,13 +1,12 @@
 -- What a decoder that answers the frame or the first fault says of spellings.
-use Rattle.std.proofs.Common.{◌≡◌, ℕ, List, length, Option, Some, None, Result, Ok, Err, refl, sym, ap, subst, ◌∙◌}
+use Rattle.std.proofs.Common.{◌≡◌, ℕ, List, length, Option, Some, None, Result, Ok, Err, sym, ap, subst, ◌∙◌}
 use Rattle.std.specs.Prelude.{IfOk}
 use Rattle.transfer_frames.specs.declared.frame.Frame.{Frame}
 use Rattle.transfer_frames.specs.declared.cause.FrameCause.{FrameCause}
 use Rattle.transfer_frames.specs.declared.cause.DecodeFault.{DecodeFault}
-use Rattle.transfer_frames.specs.declared.cause.DecodeFault.TheVariants as faults
 use Rattle.transfer_frames.specs.Numbers.{word_of, IsBytes}
-use Rattle.transfer_frames.specs.Grammar.{type_at, spelling, Spells}
-use Rattle.transfer_frames.specs.Faults.{word_fault, type_in, frame_length, first_fault, or_else, rest_fault, body_in, padding_in}
+use Rattle.transfer_frames.specs.Grammar.{type_at, Spells}
+use Rattle.transfer_frames.specs.Faults.{word_fault, type_in, frame_length, first_fault, rest_fault, body_in, padding_in}
 use Rattle.transfer_frames.specs.Front.{frame_in, Reads}
 use Rattle.transfer_frames.proofs.FrameLaws.{found, both_none, spelled_no_fault, spelled_frame}
 

@@ -1,9 +1,9 @@
 -- The two laws of the grammar: a spelled frame has no fault and is seen whole, and bytes without a fault are a frame's spelling.
-use Rattle.std.proofs.Common.{◌≡◌, ◌≢◌, ℕ, zero, suc, ◌+◌, ◌-◌, ◌*◌, ◌/◌, ◌%◌, ◌^◌, ◌<◌, ◌≤◌, ◌==◌, Bool, true, false, not, cond, eqb, nat_lt, List, [], ◌∷◌, ◌++◌, length, take, drop, replicate, Option, Some, None, refl, sym, ap, subst, ◌∙◌, append_assoc, arith}
+use Rattle.std.proofs.Common.{◌≡◌, ℕ, zero, suc, ◌-◌, ◌^◌, ◌<◌, ◌≤◌, ◌==◌, Bool, true, false, not, cond, eqb, nat_lt, List, [], ◌∷◌, ◌++◌, length, take, drop, replicate, Option, Some, None, refl, sym, ap, ◌∙◌, append_assoc, arith}
 use Rattle.std.specs.Prelude.{is_none}
 use Rattle.std.specs.List.{list_all}
-use Rattle.std.proofs.lemmas.Bool.{eqb-true, eq-eqb, le-ltb, ltb-false, not-false, and_parts, and_from}
-use Rattle.std.proofs.lemmas.List.{take_at, drop_at, length-append, length-take, length-drop, length-replicate, take-append-drop, drop-append-le, nil_from_length}
+use Rattle.std.proofs.lemmas.Bool.{eqb-true, le-ltb, ltb-false, not-false, and_parts}
+use Rattle.std.proofs.lemmas.List.{take_at, drop_at, length-append, length-take, length-drop, length-replicate, take-append-drop, drop-append-le}
 use Rattle.std.proofs.lemmas.Nat.{div-mul-add, mod-mul-add}
 use Rattle.transfer_frames.specs.declared.frame.Frame.{Frame}
 use Rattle.transfer_frames.specs.declared.cause.FrameCause.{FrameCause}
@@ -12,7 +12,7 @@ use Rattle.transfer_frames.specs.declared.kinds.FrameType.{FrameType}
 use Rattle.transfer_frames.specs.declared.kinds.FrameType.TheVariants.{Protocol, Inject, OpenFile, ExtendFile, Fill, OpenPipe, PipeTransfer, PipeShutR, PipeShutW, Ack, Restart, Close}
 use Rattle.transfer_frames.specs.Numbers.{word_bytes, word_of, IsBytes}
 use Rattle.transfer_frames.specs.Grammar.{type_number, type_at, type_of, body, size, first_word, padded, padding, spelling, MOST, IsFrame, Spells}
-use Rattle.transfer_frames.specs.Faults.{first_of, size_in, type_in, frame_length, word_fault, has_length, has_zero_rid, has_range, has_messages, body_fault, body_in, padding_in, or_else, rest_fault, first_fault}
+use Rattle.transfer_frames.specs.Faults.{size_in, type_in, frame_length, word_fault, has_length, has_zero_rid, has_range, has_messages, body_fault, body_in, padding_in, or_else, rest_fault, first_fault}
 use Rattle.transfer_frames.specs.Front.{value, value_of, frame_in}
 use Rattle.transfer_frames.proofs.NumberLaws.{IsBytes-drop, IsBytes-take, length-word_bytes, word_of-word_bytes, word_parts}
 use Rattle.transfer_frames.proofs.BodyLaws.{value-body, length-body, rids-body, range-body, messages-body, type_of-value, body-value, Passes, fields-value}

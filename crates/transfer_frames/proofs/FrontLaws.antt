@@ -1,13 +1,13 @@
 -- What stands at the front of a stream: the cases, and the laws of whole frames, of faults that stay, and of frames that are still to come.
-use Rattle.std.proofs.Common.{◌≡◌, ◌≢◌, ℕ, zero, suc, ◌+◌, ◌-◌, ◌*◌, ◌/◌, ◌%◌, ◌^◌, ◌<◌, ◌≤◌, Bool, true, false, cond, nat_lt, List, [], ◌∷◌, ◌++◌, length, take, drop, Option, Some, None, Result, Ok, Err, refl, sym, ap, subst, ◌∙◌, append_assoc, arith, inl, inr, ◌⊎◌}
+use Rattle.std.proofs.Common.{◌≡◌, ◌≢◌, ℕ, ◌+◌, ◌<◌, ◌≤◌, List, [], ◌∷◌, ◌++◌, length, take, drop, Option, Some, None, Result, Ok, Err, refl, sym, ap, subst, ◌∙◌, append_assoc, arith, inl, inr, ◌⊎◌}
 use Rattle.std.specs.List.{flat_map, AllByRecursion}
 use Rattle.std.proofs.lemmas.Bool.{cases_lt, lt-ltb, le-ltb}
-use Rattle.std.proofs.lemmas.List.{take_at, drop_at, length-append, length-take, length-drop, take-append-drop, take-append-le, append_cancel_left}
+use Rattle.std.proofs.lemmas.List.{take_at, length-append, length-take, take-append-drop, take-append-le, append_cancel_left}
 use Rattle.transfer_frames.specs.declared.frame.Frame.{Frame}
 use Rattle.transfer_frames.specs.declared.cause.FrameCause.{FrameCause}
 use Rattle.transfer_frames.specs.Numbers.{word_of, IsBytes}
-use Rattle.transfer_frames.specs.Grammar.{size, first_word, padded, spelling, MOST, IsFrame, Spells}
-use Rattle.transfer_frames.specs.Faults.{size_in, frame_length, word_fault, first_fault}
+use Rattle.transfer_frames.specs.Grammar.{first_word, padded, spelling, IsFrame, Spells}
+use Rattle.transfer_frames.specs.Faults.{frame_length, word_fault, first_fault}
 use Rattle.transfer_frames.specs.Front.{frame_in, unless, front}
 use Rattle.transfer_frames.specs.Laws.{NoFrame}
 use Rattle.transfer_frames.proofs.NumberLaws.{word_of-take, IsBytes-take}
@@ -136,11 +136,11 @@ front-proper frame part rest h parts some =
     elim (cases_lt (length part) 4) [
       | inl lt ↦ front-short part lt
       | inr le ↦
-        let word : word_of part ≡ first_word frame = sym (word_of-append part rest le) ∙ ap word_of (sym parts) ∙ spelled_alone frame h in
-        let whole : frame_length (word_of part) ≡ length (spelling frame) = ap frame_length word ∙ ap padded (spelled_size frame) ∙ sym (length-spelling frame) in
-        let both : length (spelling frame) ≡ length part + length rest = ap length parts ∙ length-append part rest in
-        let more : 0 < length rest = some_length rest some in
-        front-waits part le (ap word_fault word ∙ spelled_word_fault frame h) (omega arith)
+          let word : word_of part ≡ first_word frame = sym (word_of-append part rest le) ∙ ap word_of (sym parts) ∙ spelled_alone frame h in
+          let whole : frame_length (word_of part) ≡ length (spelling frame) = ap frame_length word ∙ ap padded (spelled_size frame) ∙ sym (length-spelling frame) in
+          let both : length (spelling frame) ≡ length part + length rest = ap length parts ∙ length-append part rest in
+          let more : 0 < length rest = some_length rest some in
+          front-waits part le (ap word_fault word ∙ spelled_word_fault frame h) (omega arith)
     ]
   where
     some_length : (xs : List ℕ) → xs ≢ [] → 0 < length xs

@@ -4,3 +4,4 @@ pub mod BodyLaws
 pub mod FrameLaws
 pub mod Decoded
 pub mod FrontLaws
+pub mod SmallLaws

@@ -1,8 +1,7 @@
 -- What is wrong with bytes that should be a frame: the causes 1 to 9, in the order in which they are tested.
-use Rattle.std.specs.Prelude.{◌≡◌, ◌≢◌, ℕ, ◌+◌, ◌-◌, ◌*◌, ◌/◌, ◌%◌, nat_lt, nat_le, ◌==◌, if◌then◌else◌, Bool, true, false, not, ◌&&◌, List, [], ◌∷◌, length, take, drop, Option, Some, None, is_none}
+use Rattle.std.specs.Prelude.{ℕ, ◌+◌, ◌-◌, ◌/◌, ◌%◌, nat_lt, nat_le, ◌==◌, if◌then◌else◌, Bool, true, false, not, ◌&&◌, List, [], ◌∷◌, length, take, drop, Option, Some, None, is_none}
 use Rattle.std.specs.List.{list_any, list_all}
 use Rattle.wl_wire.specs.Wire.{cut_rest}
-use Rattle.transfer_frames.specs.declared.frame.Frame.{Frame}
 use Rattle.transfer_frames.specs.declared.cause.FrameCause.{FrameCause}
 use Rattle.transfer_frames.specs.declared.cause.FrameCause.TheVariants.{SizeSmall, SizeLarge, UnknownType, LeftOut, BodyLength, Padding, RidZero, FillRange, MessageCut}
 use Rattle.transfer_frames.specs.declared.kinds.FrameType.{FrameType}

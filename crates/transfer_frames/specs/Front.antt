@@ -1,5 +1,5 @@
 -- What stands at the front of a stream of bytes: a frame, the beginning of one, or a fault.
-use Rattle.std.specs.Prelude.{◌≡◌, ◌≢◌, ℕ, ◌≤◌, nat_lt, if◌then◌else◌, List, [], length, take, drop, Option, Some, None, Result, Ok, Err, map}
+use Rattle.std.specs.Prelude.{◌≡◌, ℕ, ◌≤◌, nat_lt, if◌then◌else◌, List, [], length, take, drop, Option, Some, None, Result, Ok, Err, map}
 use Rattle.transfer_frames.specs.declared.frame.Frame.{Frame}
 use Rattle.transfer_frames.specs.declared.frame.Frame.TheVariants as frames
 use Rattle.transfer_frames.specs.declared.cause.FrameCause.{FrameCause}
@@ -76,12 +76,14 @@ Reads (Ok frame) fault read = (fault ≡ None) × (read ≡ Some frame)
 Reads (Err (faults.Frame cause)) fault read = fault ≡ Some cause
 Reads (Err faults.Memory) fault read = Unit {0}
 
--- the three types whose frames hold no list
+-- a type whose frames hold no list: all but four
 abbrev pub IsSmall : Option FrameType → Type 0
-IsSmall (Some Ack) = Unit {0}
-IsSmall (Some Restart) = Unit {0}
-IsSmall (Some Close) = Unit {0}
-IsSmall type = ⊥
+IsSmall None = ⊥
+IsSmall (Some Protocol) = ⊥
+IsSmall (Some Inject) = ⊥
+IsSmall (Some Fill) = ⊥
+IsSmall (Some PipeTransfer) = ⊥
+IsSmall type = Unit {0}
 
 -- never want of memory
 abbrev pub TakesNoMemory : Result Frame DecodeFault → Type 0

@@ -1,5 +1,5 @@
 -- The grammar of the link's frames: which frames there are and the one spelling of each in bytes; it is this project's own, and the messages in a PROTOCOL frame are those of the Wayland wire format.
-use Rattle.std.specs.Prelude.{◌≡◌, ℤ, ℕ, ◌+◌, ◌-◌, ◌*◌, ◌/◌, ◌%◌, ◌<◌, ◌≤◌, ◌==◌, if◌then◌else◌, true, false, List, [], ◌∷◌, ◌++◌, length, All, replicate, Option, Some, None}
+use Rattle.std.specs.Prelude.{◌≡◌, ℕ, ◌+◌, ◌-◌, ◌*◌, ◌/◌, ◌%◌, ◌<◌, ◌≤◌, ◌==◌, if◌then◌else◌, true, false, List, [], ◌++◌, length, replicate, Option, Some, None}
 use Rattle.std.specs.List.{flat_map, AllByRecursion}
 use Rattle.wl_wire.specs.Wire.{cut_rest}
 use Rattle.transfer_frames.specs.declared.frame.Frame.{Frame}
@@ -135,3 +135,9 @@ role (Ack count) = Tells count
 role (Restart token connection received) = Greets token connection received
 role (Close reason) = Counted true
 role frame = Counted false
+
+-- it greets or tells a count
+abbrev pub IsReply : Frame → Type 0
+IsReply (Ack count) = Unit {0}
+IsReply (Restart token connection received) = Unit {0}
+IsReply frame = ⊥

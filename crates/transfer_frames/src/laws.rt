@@ -8,15 +8,13 @@ use wl_wire::joined_is_cut;
 pub fn read_is_spelled()
     ensures again { SpelledIsRead }
     ensures so { ReadIsSpelled }
-{
-}
+{}
 
 /// No frame's bytes begin another's, so a stream is one row of frames.
 pub fn row_is_unique()
     ensures begins { NoneBegins }
     ensures row { OneRow }
-{
-}
+{}
 
 /// What stands at the front of a stream is decided there, and a part of a frame decides nothing.
 pub fn front_is_decided()
@@ -24,14 +22,12 @@ pub fn front_is_decided()
     ensures found { FrameOfFront }
     ensures stays { FrontStays }
     ensures waits { PartWaits }
-{
-}
+{}
 
 /// How many bytes a frame takes.
 pub fn length_is_bounded()
     ensures { SpellingLength }
-{
-}
+{}
 
 /// One whole message makes a frame.
 pub fn message_fits()

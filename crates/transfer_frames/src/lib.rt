@@ -10,14 +10,17 @@ mod line;
 mod numbers;
 mod reading;
 mod rules;
+mod small;
 mod writing;
 
 pub use cause::{DecodeFault, FrameCause};
 pub use frame::{Frame, FrameRole, part_of};
 pub use front::first_frame;
-pub use laws::{
-    front_is_decided, length_is_bounded, message_fits, read_is_spelled, row_is_unique,
-};
+pub use laws::{front_is_decided, length_is_bounded, message_fits, read_is_spelled, row_is_unique};
 pub use line::frame_line;
 pub use reading::decode;
+pub use small::put_small;
 pub use writing::encode;
+
+#[cfg(test)]
+mod tests;

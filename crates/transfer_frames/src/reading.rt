@@ -156,7 +156,8 @@ fn read(alloc: Global, bytes: &[u8]) -> Result<Frame, DecodeFault>
     }
 }
 
-/// The frame that the bytes spell. RESTART, ACK and CLOSE are read without memory.
+/// The frame that the bytes spell. Only PROTOCOL, INJECT, FILL and PIPE_TRANSFER take memory: RESTART, ACK and CLOSE
+/// are read without.
 ///
 /// # Errors
 /// `Frame` with the first fault of the bytes; `Memory` where memory runs out.

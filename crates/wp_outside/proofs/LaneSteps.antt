@@ -1,7 +1,7 @@
 -- What one step of a kept lane does to the lane that it stands for.
-use Rattle.std.proofs.Common.{◌≡◌, ℕ, ◌+◌, ◌≤◌, Bool, true, false, List, ◌++◌, length, take, drop, Option, Some, None, unwrap_or, if◌then◌else◌, slice_set, sym, ◌∙◌, ap, refl, arith}
+use Rattle.std.proofs.Common.{◌≡◌, ℕ, ◌+◌, Bool, true, false, List, ◌++◌, take, drop, Some, None, unwrap_or, if◌then◌else◌, slice_set, sym, ◌∙◌, ap, refl, arith}
 use Rattle.std.proofs.lemmas.List.{drop-drop, take-set-le, drop-set-add, take-append-drop, take-take, drop-take}
-use Rattle.wp_outside.specs.Lines.{Lane, lane_with_pulled, lane_with_spoiled}
+use Rattle.wp_outside.specs.Lines.{lane_with_pulled, lane_with_spoiled}
 use Rattle.wp_outside.specs.Kept.{KeptLane, carried, shown_lane}
 
 -- the first n and then m elements are the first n + m
@@ -13,19 +13,19 @@ take_further n m xs =
 
 -- n more bytes given
 pub pulled_shown : (lane : KeptLane) (n : ℕ)
-  → shown_lane true (record lane { given = lane.given + n }) ≡ lane_with_pulled n (shown_lane true lane)
+    → shown_lane true (record lane { given = lane.given + n }) ≡ lane_with_pulled n (shown_lane true lane)
 pulled_shown lane n =
     rw (take_further lane.given n (carried lane), drop-drop n lane.given (carried lane)) refl
 
 -- the bytes that are carried, at a lane that keeps them beside those pushed
 pub carried_kept : (pushed bytes : List ℕ) (was_spoiled : Bool) → (was_spoiled ≡ false → bytes ≡ pushed)
-  → unwrap_or (if was_spoiled then (Some bytes) else None) pushed ≡ bytes
+    → unwrap_or (if was_spoiled then (Some bytes) else None) pushed ≡ bytes
 carried_kept pushed bytes true same = refl
 carried_kept pushed bytes false same = sym (same refl)
 
 -- one waiting byte replaced
 pub spoiled_shown : (lane : KeptLane) (bytes : List ℕ) (offset byte : ℕ) → carried lane ≡ bytes
-  → shown_lane true (record lane { replaced = Some (slice_set bytes (lane.given + offset) byte) })
+    → shown_lane true (record lane { replaced = Some (slice_set bytes (lane.given + offset) byte) })
     ≡ lane_with_spoiled offset byte (shown_lane true lane)
 spoiled_shown lane bytes offset byte is =
     rw (is, take-set-le lane.given bytes (lane.given + offset) byte (omega arith), drop-set-add lane.given bytes offset byte) refl

@@ -1,6 +1,6 @@
 -- What the link store in memory keeps of each connection, and the line that it stands for. This
 -- project's own: the Wayland standard knows one connection, and nothing of what went through it.
-use Rattle.std.specs.Prelude.{◌≡◌, ℕ, ◌+◌, Bool, true, false, if◌then◌else◌, List, [], ◌∷◌, ◌++◌, Option, None, Some, is_some, unwrap_or, length, take, drop, slice_set}
+use Rattle.std.specs.Prelude.{ℕ, Bool, true, if◌then◌else◌, List, [], Option, None, Some, is_some, unwrap_or, take, drop}
 use Rattle.std.specs.Ordering.{nat_cmp}
 use Rattle.std.specs.BTreeMap.{is_at}
 use Rattle.std.specs.Map.{lookup}
@@ -30,7 +30,7 @@ shown_lane is_up lane =
       pushed = lane.pushed;
       pulled = take lane.given (carried lane);
       waiting = if is_up then (drop lane.given (carried lane)) else [];
-      was_spoiled = is_some lane.replaced
+      was_spoiled = is_some lane.replaced;
     }
 
 -- the line of a connection that was opened
@@ -40,7 +40,7 @@ shown_line line =
       was_opened = true;
       is_up = line.is_up;
       up = shown_lane line.is_up line.up;
-      down = shown_lane line.is_up line.down
+      down = shown_lane line.is_up line.down;
     }
 
 -- the line of a connection that was opened or not

@@ -1,13 +1,13 @@
 -- What holds of every line that the link store in memory stands for. This project's own: the Wayland
 -- standard keeps no such records.
-use Rattle.std.proofs.Common.{◌≡◌, ◌≢◌, ℕ, Bool, true, false, List, [], ◌++◌, Option, None, Some, is_some, unwrap_or, take, drop, refl, sym, ◌∙◌, ap}
+use Rattle.std.proofs.Common.{◌≡◌, ℕ, Bool, true, false, List, [], ◌++◌, Option, None, Some, is_some, unwrap_or, take, drop, refl, sym, ◌∙◌}
 use Rattle.std.proofs.lemmas.List.{take-append-drop}
 use mathlib.Core.Bool.{true≢false}
 use Rattle.std.specs.Ordering.{nat_cmp}
 use Rattle.std.specs.BTreeMap.{is_at}
 use Rattle.std.specs.Map.{lookup}
-use Rattle.wp_outside.specs.Lines.{Lane, Line, fresh_lane, fresh_line, IsFront, IsHonestLane, IsHonest, Became}
-use Rattle.wp_outside.specs.Kept.{KeptLane, KeptLine, carried, shown_lane, shown_line, line_or_fresh, line_among}
+use Rattle.wp_outside.specs.Lines.{fresh_lane, IsHonestLane, IsHonest}
+use Rattle.wp_outside.specs.Kept.{KeptLane, KeptLine, carried, shown_lane, line_or_fresh, line_among}
 
 -- what is carried is what was pushed, but for a lane that was spoiled
 carried_unless : (replaced : Option (List ℕ)) (pushed : List ℕ) → is_some replaced ≡ false → unwrap_or replaced pushed ≡ pushed
@@ -16,7 +16,7 @@ carried_unless (Some bytes) pushed spoiled = absurd (true≢false spoiled)
 
 -- what was given and what was not are together what was pushed
 whole_unless : (lane : KeptLane) → is_some lane.replaced ≡ false
-  → take lane.given (carried lane) ++ drop lane.given (carried lane) ≡ lane.pushed
+    → take lane.given (carried lane) ++ drop lane.given (carried lane) ≡ lane.pushed
 whole_unless lane unspoiled =
     take-append-drop lane.given (carried lane) ∙ carried_unless lane.replaced lane.pushed unspoiled
 
@@ -26,13 +26,13 @@ shown_lane-honest true lane =
     record {
       front = λ unspoiled. (drop lane.given (carried lane), whole_unless lane unspoiled);
       whole = λ _ unspoiled. whole_unless lane unspoiled;
-      dropped = λ down. absurd (true≢false down)
+      dropped = λ down. absurd (true≢false down);
     }
 shown_lane-honest false lane =
     record {
       front = λ unspoiled. (drop lane.given (carried lane), whole_unless lane unspoiled);
       whole = λ up _. absurd (true≢false (sym up));
-      dropped = λ _. refl
+      dropped = λ _. refl;
     }
 
 -- a lane that no byte went through
@@ -41,7 +41,7 @@ fresh_lane-honest =
     record {
       front = λ _. ([], refl);
       whole = λ _ _. refl;
-      dropped = λ _. refl
+      dropped = λ _. refl;
     }
 
 -- a connection that was opened or not
@@ -51,7 +51,7 @@ line_or_fresh-honest (Some line) =
     record {
       up = shown_lane-honest line.is_up line.up;
       down = shown_lane-honest line.is_up line.down;
-      fresh = λ unopened. absurd (true≢false unopened)
+      fresh = λ unopened. absurd (true≢false unopened);
     }
 
 -- each connection of the store

@@ -1,6 +1,6 @@
 -- What the sources and sinks in memory hold, and what one call of each answers and changes. This
 -- project's own: the Wayland standard has no such thing.
-use Rattle.std.specs.Prelude.{ℕ, ◌+◌, ◌-◌, ◌^◌, ◌==◌, if◌then◌else◌, Bool, true, false, Result, Ok, Err, List, [], ◌∷◌, ◌++◌, length, take, drop, min}
+use Rattle.std.specs.Prelude.{ℕ, ◌+◌, ◌-◌, ◌^◌, ◌==◌, if◌then◌else◌, Bool, true, false, List, [], ◌∷◌, ◌++◌, length, take, drop, min}
 use Rattle.std.specs.List.{list_any}
 use Rattle.wp_outside.specs.declared.sources.Taken.{Taken}
 use Rattle.wp_outside.specs.declared.sources.Taken.TheVariants.{Bytes, End, Failed}

@@ -1,6 +1,6 @@
 -- What one read of a source gives and what one write to a sink takes, by pieces of any length. This
 -- project's own, after the calls `read` and `write` of Rust's standard library.
-use Rattle.std.specs.Prelude.{◌≡◌, ℕ, ◌≤◌, Option, None, Some, Result, Ok, Err, List, [], ◌++◌, length, take, drop}
+use Rattle.std.specs.Prelude.{◌≡◌, ℕ, ◌≤◌, Option, None, Some, List, [], ◌++◌, length, take, drop}
 use Rattle.wp_outside.specs.declared.sources.Taken.{Taken}
 use Rattle.wp_outside.specs.declared.sources.Taken.TheVariants.{Bytes, End, Failed}
 

@@ -19,7 +19,7 @@ pub enum Side {
 }
 
 /// What a handle, which stands for a Wayland `fd` argument, leads to.
-#[derive(Clone, Copy, Debug, PartialEq, Eq)]
+#[derive(Clone, Copy, Debug, PartialEq, Eq, Hash)]
 pub enum HandleKind {
     /// A file of shared memory.
     File,

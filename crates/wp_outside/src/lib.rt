@@ -22,5 +22,8 @@ pub use link_stores::LinkStore;
 pub use memory_sinks::MemorySink;
 pub use memory_sources::{CleanSource, MemorySource};
 pub use sinks::{Failed, Sink};
-pub use std_adapters::{StdSink, StdSource};
 pub use sources::{Source, Taken};
+pub use std_adapters::{StdSink, StdSource};
+
+#[cfg(test)]
+mod tests;

@@ -43,8 +43,7 @@ impl LinkStore for LineStore {
 
     /// Takes no memory but for the connection's place.
     fn open(&mut self, connection: u32) -> Result<(), AllocError> {
-        self.lines
-            .insert(connection, StoredLine::new(self.alloc))?;
+        self.lines.insert(connection, StoredLine::new(self.alloc))?;
         Ok(())
     }
 

@@ -27,9 +27,9 @@ impl Model for StoredLane {
     ghost Value = { KeptLane };
 
     ghost view = { λ l. record {
-        pushed = l.pushed.items;
-        given = l.given;
-        replaced = if l.was_spoiled then (Some l.carried.items) else None
+      pushed = l.pushed.items;
+      given = l.given;
+      replaced = if l.was_spoiled then (Some l.carried.items) else None;
     } };
 
     ghost invariant = { λ l. (l.given ≤ length l.carried.items)

@@ -1,7 +1,7 @@
-use Rattle.std.proofs.Common.{◌≡◌, ℕ, List, [], ◌∷◌, All, length, sym, ap, ◌∙◌, arith}
+use Rattle.std.proofs.Common.{◌≡◌, [], ◌∷◌, All, sym, ap, ◌∙◌, arith}
 use Rattle.std.proofs.lemmas.List.{append-nil}
 use Rattle.std.proofs.lemmas.List.Elements.{All-cons, All-nil}
-use Rattle.wl_wire.specs.Wire.{IsMessage, joined, cut_rest}
+use Rattle.wl_wire.specs.Wire.{IsMessage, cut_rest}
 use Rattle.transfer_frames.proofs.laws.message_fits.Goals as goal
 
 pub returns : goal.returns

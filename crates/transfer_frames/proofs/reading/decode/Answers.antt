@@ -1,4 +1,4 @@
-use Rattle.std.proofs.Common.{arith, ap, sym, subst, ◌∙◌}
+use Rattle.std.proofs.Common.{arith}
 use Rattle.transfer_frames.proofs.Decoded.{is_found, is_read}
 use Rattle.transfer_frames.proofs.reading.decode.Goals as goal
 

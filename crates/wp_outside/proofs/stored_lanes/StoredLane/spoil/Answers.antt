@@ -9,5 +9,5 @@ pub returns-clause-lane : goal.returns-clause-lane
 returns-clause-lane c =
     let inside = c.self.inside in
     spoiled_shown (the_view inside) inside.carried.items c.args.offset c.args.byte
-      (carried_kept inside.pushed.items inside.carried.items inside.was_spoiled c.self.invariant.1)
+    (carried_kept inside.pushed.items inside.carried.items inside.was_spoiled c.self.invariant.1)
     ∙ ap (λ (lane : KeptLane). lane_with_spoiled c.args.offset c.args.byte (shown_lane true lane)) c.self.view_is

@@ -1,0 +1,4 @@
+pub mod RunLemmas
+pub mod PlaceLemmas
+pub mod SetLemmas
+pub mod LawProofs

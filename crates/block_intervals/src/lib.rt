@@ -1,0 +1,13 @@
+//! Sets of blocks, kept as the ascending list of their runs.
+#![tactic(auto)]
+
+mod blocks;
+mod laws;
+mod places;
+mod run;
+#[cfg(test)]
+mod tests;
+
+pub use blocks::Blocks;
+pub use laws::{has_hull, has_runs_of, runs_are_unique};
+pub use run::Run;

@@ -1,0 +1,20 @@
+ghost use Rattle.std.specs.Prelude.{◌≡◌, min, max};
+
+/// The blocks from `first` up to, but not with, `end`.
+#[derive(Clone, Copy, Debug, PartialEq, Eq)]
+pub struct Run {
+    pub first: u32,
+    pub end: u32,
+}
+
+impl Run {
+    // The least run that has the blocks of both.
+    pub(crate) fn spanning(self, other: Run) -> Run
+        ensures { result ≡ record { first = min self.first other.first; end = max self.end other.end } }
+    {
+        Run {
+            first: self.first.min(other.first),
+            end: self.end.max(other.end),
+        }
+    }
+}
