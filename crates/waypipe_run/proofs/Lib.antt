@@ -8,4 +8,5 @@ pub mod ReadingLemmas
 pub mod RoundLemmas
 pub mod RowLemmas
 pub mod RunLemmas
+pub mod TopLemmas
 pub mod WordLemmas

@@ -17,4 +17,5 @@ pub mod Scripts
 pub mod Sides
 pub mod Texts
 pub mod Top
+pub mod TopLaws
 pub mod Words

@@ -9,9 +9,9 @@ use crate::writing::write_all;
 use std::alloc::Global;
 use wp_outside::{LinkStore, Sink, Source};
 
-/// Does what the words ask for: reads the input to its end, replays its script over the link, and writes the report. The
-/// whole text is made before the first write.
-fn run<S: Source, K: Sink, L: LinkStore>(
+/// Does what the words ask for: reads the input to its end, replays its script over the link, on which nothing was opened
+/// before, and writes the report. The whole text is made before the first write.
+pub fn run_plain<S: Source, K: Sink, L: LinkStore>(
     alloc: Global,
     words: &[String],
     input: &mut S,
