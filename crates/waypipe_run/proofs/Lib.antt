@@ -10,3 +10,4 @@ pub mod RowLemmas
 pub mod RunLemmas
 pub mod TopLemmas
 pub mod WordLemmas
+mod StreamLemmas

@@ -19,3 +19,4 @@ pub mod Texts
 pub mod Top
 pub mod TopLaws
 pub mod Words
+pub mod Streams

@@ -1,16 +1,20 @@
 -- The names by which the program prints causes. The faults of messages are those of the Wayland wire format; the names,
 -- and all other causes, are this project's own. Of a cause inside another one the innermost alone is printed.
-use Rattle.std.specs.Prelude.{ℕ, List, codes, ◌++◌, decimal}
+use Rattle.std.specs.Prelude.{ℕ, List, [], ◌∷◌, codes, ◌++◌, decimal}
 use Rattle.wl_wire.specs.declared.faults.WireFault.{WireFault}
 use Rattle.wl_wire.specs.declared.faults.WireFault.TheVariants as wire
 use Rattle.wl_wire.specs.declared.faults.ObjectFault.{ObjectFault}
 use Rattle.wl_wire.specs.declared.faults.ObjectFault.TheVariants as object
 use Rattle.wp_outside.specs.declared.kinds.Side.{Side}
 use Rattle.wp_outside.specs.declared.kinds.Side.TheVariants as side
+use Rattle.transfer_frames.specs.declared.cause.FrameCause.{FrameCause}
+use Rattle.transfer_frames.specs.declared.cause.FrameCause.TheVariants as frame
 use Rattle.waypipe_run.specs.declared.causes.ScriptCause.{ScriptCause}
 use Rattle.waypipe_run.specs.declared.causes.ScriptCause.TheVariants as script
 use Rattle.waypipe_run.specs.declared.causes.PeerCause.{PeerCause}
 use Rattle.waypipe_run.specs.declared.causes.PeerCause.TheVariants as peer
+use Rattle.waypipe_run.specs.declared.status.Reader.{Reader}
+use Rattle.waypipe_run.specs.declared.status.Reader.TheVariants as reader
 use Rattle.waypipe_run.specs.declared.causes.Limit.{Limit}
 use Rattle.waypipe_run.specs.declared.causes.Limit.TheVariants as limit
 
@@ -58,3 +62,46 @@ limit_name limit.Lines = codes "lines"
 abbrev pub side_name : Side → List ℕ
 side_name side.Near = codes "application"
 side_name side.Far = codes "compositor"
+
+-- whose bytes a frame stands in
+abbrev pub reader_name : Reader → List ℕ
+reader_name reader.Near = codes "near"
+reader_name reader.Far = codes "far"
+reader_name reader.Input = codes "input"
+
+unfoldable pub frame_name : FrameCause → List ℕ
+frame_name frame.SizeSmall = codes "SizeSmall"
+frame_name frame.SizeLarge = codes "SizeLarge"
+frame_name frame.UnknownType = codes "UnknownType"
+frame_name (frame.LeftOut type) = codes "LeftOut"
+frame_name frame.BodyLength = codes "BodyLength"
+frame_name frame.Padding = codes "Padding"
+frame_name frame.RidZero = codes "RidZero"
+frame_name frame.FillRange = codes "FillRange"
+frame_name frame.MessageCut = codes "MessageCut"
+frame_name frame.RestartMissing = codes "RestartMissing"
+frame_name frame.RestartAgain = codes "RestartAgain"
+frame_name frame.Token = codes "Token"
+frame_name frame.Connection = codes "Connection"
+frame_name frame.RestartBehind = codes "RestartBehind"
+frame_name frame.RestartAhead = codes "RestartAhead"
+frame_name frame.AckBehind = codes "AckBehind"
+frame_name frame.AckAhead = codes "AckAhead"
+frame_name frame.AfterClose = codes "AfterClose"
+frame_name frame.CountSpent = codes "CountSpent"
+frame_name frame.RidInUse = codes "RidInUse"
+frame_name frame.RidUnknown = codes "RidUnknown"
+frame_name frame.ExtendSmaller = codes "ExtendSmaller"
+frame_name frame.FillOutside = codes "FillOutside"
+frame_name frame.FileTooLarge = codes "FileTooLarge"
+frame_name frame.PipeUnknown = codes "PipeUnknown"
+frame_name frame.PipeShut = codes "PipeShut"
+frame_name frame.RidCount = codes "RidCount"
+frame_name (frame.PeerMessage fault) = codes "PeerMessage"
+frame_name frame.FilesTooLarge = codes "FilesTooLarge"
+
+-- what stands behind the name of a cause that carries something, after a space
+abbrev pub frame_detail : FrameCause → List ℕ
+frame_detail (frame.LeftOut type) = 32 ∷ decimal type
+frame_detail (frame.PeerMessage fault) = 32 ∷ object_name fault
+frame_detail cause = []

@@ -4,7 +4,9 @@ use Rattle.wp_outside.specs.declared.kinds.Side.{Side}
 use Rattle.waypipe_run.specs.declared.causes.ScriptCause.{ScriptCause}
 use Rattle.waypipe_run.specs.declared.causes.PeerCause.{PeerCause}
 use Rattle.waypipe_run.specs.declared.causes.Limit.{Limit}
-use Rattle.waypipe_run.specs.Names.{script_name, peer_name, limit_name, side_name}
+use Rattle.transfer_frames.specs.declared.cause.FrameCause.{FrameCause}
+use Rattle.waypipe_run.specs.declared.status.Reader.{Reader}
+use Rattle.waypipe_run.specs.Names.{script_name, peer_name, limit_name, side_name, reader_name, frame_name, frame_detail}
 
 unfoldable pub usage_text : List ℕ
 usage_text = codes "usage: waypipe replay [--text] [--long] or frames or trial N or session [--workers N] [--link memory or tcp] [--text] [--long]\n"
@@ -23,3 +25,11 @@ peer_text side index cause = codes "peer " ++ (side_name side ++ (codes " messag
 
 unfoldable pub limit_text : Limit → List ℕ
 limit_text which = codes "limit " ++ (limit_name which ++ (10 ∷ []))
+
+unfoldable pub frame_text : Reader → ℕ → ℕ → FrameCause → List ℕ
+frame_text reader connection place cause =
+  codes "frame " ++ (reader_name reader ++ (codes " connection " ++ (decimal connection ++ (codes " place " ++ (decimal place
+  ++ (codes ": " ++ (frame_name cause ++ (frame_detail cause ++ (10 ∷ [])))))))))
+
+unfoldable pub rest_text : ℕ → List ℕ
+rest_text count = codes "rest " ++ (decimal count ++ (10 ∷ []))

@@ -1,7 +1,13 @@
 -- What the program's call owes, status by status: over the bytes that were read, the bytes that were written and what the
 -- link tells. The messages are those of the Wayland wire format.
-use Rattle.std.specs.Prelude.{◌≡◌, ℕ, ◌+◌, ◌<◌, ◌≤◌, List, [], ◌∷◌, ◌++◌, Option, Some, None, Result, Ok, Err, length, String}
+use Rattle.std.specs.Prelude.{◌≡◌, ◌⊎◌, ℕ, ◌+◌, ◌<◌, ◌≤◌, List, [], ◌∷◌, ◌++◌, Option, Some, None, Result, Ok, Err, length, String}
+use Rattle.std.specs.List.{flat_map}
 use Rattle.std.specs.declared.alloc.Global.{Global}
+use Rattle.transfer_frames.specs.Grammar.{spelling}
+use Rattle.transfer_frames.specs.Front.{front}
+use Rattle.transfer_frames.specs.declared.frame.Frame.{Frame}
+use Rattle.transfer_frames.specs.declared.cause.FrameCause.{FrameCause}
+use Rattle.frame_stream.specs.Listing.{Lists, text_of}
 use Rattle.wl_wire.specs.declared.faults.WireFault.{WireFault}
 use Rattle.wl_wire.specs.declared.faults.ObjectFault.TheVariants.{Wire}
 use Rattle.wp_outside.specs.Counts.{Rose}
@@ -10,18 +16,20 @@ use Rattle.wp_outside.specs.Pieces.{IfTold, held_with}
 use Rattle.wp_outside.specs.declared.kinds.Side.{Side}
 use Rattle.wp_outside.specs.declared.kinds.Side.TheVariants.{Near}
 use Rattle.waypipe_run.specs.Grammar.{Act}
-use Rattle.waypipe_run.specs.Moving.{Took, MOST_INPUT, WroteFront}
+use Rattle.waypipe_run.specs.Moving.{Took, MOST_INPUT, TookNoMore, WroteFront}
 use Rattle.waypipe_run.specs.Outcomes.{WentThrough, StoppedAt}
 use Rattle.waypipe_run.specs.Pieces.{lines}
 use Rattle.waypipe_run.specs.Reading.{acts}
 use Rattle.waypipe_run.specs.Report.{report}
-use Rattle.waypipe_run.specs.Texts.{usage_text, read_failed_text, drained_text, script_text, peer_text, limit_text}
-use Rattle.waypipe_run.specs.Words.{IsReplay}
+use Rattle.waypipe_run.specs.Texts.{usage_text, read_failed_text, drained_text, script_text, peer_text, limit_text, frame_text, rest_text}
+use Rattle.waypipe_run.specs.Words.{IsReplay, IsFrames, IsCommand}
 use Rattle.waypipe_run.specs.declared.causes.Limit.TheVariants.{Input}
 use Rattle.waypipe_run.specs.declared.causes.Limit.{Limit}
 use Rattle.waypipe_run.specs.declared.causes.PeerCause.{PeerCause}
 use Rattle.waypipe_run.specs.declared.causes.PeerCause.TheVariants.{Object}
 use Rattle.waypipe_run.specs.declared.causes.ScriptCause.{ScriptCause}
+use Rattle.waypipe_run.specs.declared.status.Reader.{Reader}
+use Rattle.waypipe_run.specs.declared.status.Reader.TheVariants as reader
 use Rattle.waypipe_run.specs.declared.status.Status.{Status}
 use Rattle.waypipe_run.specs.declared.status.Status.TheVariants as status
 
@@ -85,21 +93,21 @@ TellsText other bytes before after text = ⊥
 
 -- words that are no command: nothing is read
 pub record IsUsage (words : List (String Global)) (old new : InputState) (before after : ℕ → Line) (text : List ℕ) : Type 0 where
-  pub no_command : IsReplay words → ⊥
+  pub no_command : IsCommand words → ⊥
   pub unread : new ≡ old
   pub untouched : Same before after
   pub printed : text ≡ usage_text
 
 -- a read failed
 pub record IsReadFault (words : List (String Global)) (old new : InputState) (before after : ℕ → Line) (text : List ℕ) : Type 0 where
-  pub command : IsReplay words
+  pub command : IsCommand words
   pub rose : Rose old.faults new.faults
   pub untouched : Same before after
   pub printed : text ≡ read_failed_text
 
 -- there are more bytes than the program reads
 pub record IsLimit (which : Limit) (words : List (String Global)) (old new : InputState) (before after : ℕ → Line) (text : List ℕ) : Type 0 where
-  pub command : IsReplay words
+  pub command : IsCommand words
   pub input : which ≡ Input
   pub above : IfTold old.left (λ left. MOST_INPUT < length left)
   pub no_fault : new.faults ≡ old.faults
@@ -113,16 +121,49 @@ pub record IsAnswer (answer : Status) (words : List (String Global)) (old new : 
   pub read : ReadWhole old new bytes
   pub told : TellsText answer bytes before after text
 
+-- the lines of the frames of a stream at whose end no fault stands, and the count of the bytes behind them
+pub record Listed (bytes text : List ℕ) : Type 0 where
+  pub frames : List Frame
+  pub rest : List ℕ
+  pub lists : Lists bytes frames rest
+  pub waits : front rest ≡ Ok None
+  pub printed : text ≡ text_of 0 frames ++ rest_text (length rest)
+
+-- the lines of the frames before a fault, and the line that says where it stands
+pub record ListedFault (whose : Reader) (connection place : ℕ) (cause : FrameCause) (bytes text : List ℕ) : Type 0 where
+  pub frames : List Frame
+  pub rest : List ℕ
+  pub lists : Lists bytes frames rest
+  pub fault : front rest ≡ Err cause
+  pub input : whose ≡ reader.Input
+  pub no_connection : connection ≡ 0
+  pub behind : place ≡ length (flat_map spelling frames)
+  pub printed : text ≡ text_of 0 frames ++ frame_text whose connection place cause
+
+-- what a stream of frames is answered with
+abbrev pub TellsStream : Status → List ℕ → List ℕ → Type 0
+TellsStream status.Done bytes text = Listed bytes text
+TellsStream (status.Frame whose connection place cause) bytes text = ListedFault whose connection place cause bytes text
+TellsStream other bytes text = ⊥
+
+-- a stream of frames that was read whole is answered; nothing goes over the link
+pub record IsListed (answer : Status) (words : List (String Global)) (old new : InputState) (before after : ℕ → Line) (text : List ℕ) : Type 0 where
+  pub command : IsFrames words
+  pub bytes : List ℕ
+  pub read : ReadWhole old new bytes
+  pub untouched : Same before after
+  pub told : TellsStream answer bytes text
+
 -- when each status comes, and with which text
 abbrev pub Tells : Status → List (String Global) → InputState → InputState → (ℕ → Line) → (ℕ → Line) → List ℕ → Type 0
-Tells status.Done words old new before after text = IsAnswer status.Done words old new before after text
+Tells status.Done words old new before after text = IsAnswer status.Done words old new before after text ⊎ IsListed status.Done words old new before after text
 Tells status.Memory words old new before after text = ⊥
 Tells status.Usage words old new before after text = IsUsage words old new before after text
 Tells status.ReadFault words old new before after text = IsReadFault words old new before after text
 Tells status.WriteFault words old new before after text = ⊥
 Tells (status.Script line cause) words old new before after text = IsAnswer (status.Script line cause) words old new before after text
 Tells (status.Peer side index cause) words old new before after text = IsAnswer (status.Peer side index cause) words old new before after text
-Tells (status.Frame reader connection place cause) words old new before after text = ⊥
+Tells (status.Frame whose connection place cause) words old new before after text = IsListed (status.Frame whose connection place cause) words old new before after text
 Tells (status.Limit which) words old new before after text = IsLimit which words old new before after text
 Tells status.LinkFault words old new before after text = ⊥
 Tells (status.LinkDiffers connection direction place wrote read) words old new before after text = ⊥

@@ -1,7 +1,13 @@
 -- Laws of the program's call: which status an input calls for, and that no other one comes but by an outside fault or
 -- for want of memory.
 use Rattle.std.specs.Prelude.{◌≡◌, ℕ, ◌≤◌, Option, Some, None, Result, Ok, Err, ◌⊎◌, List, length, nat_lt, if◌then◌else◌, String}
+use Rattle.std.specs.List.{flat_map}
 use Rattle.std.specs.declared.alloc.Global.{Global}
+use Rattle.transfer_frames.specs.Grammar.{spelling}
+use Rattle.transfer_frames.specs.Front.{front}
+use Rattle.transfer_frames.specs.declared.frame.Frame.{Frame}
+use Rattle.transfer_frames.specs.declared.cause.FrameCause.{FrameCause}
+use Rattle.frame_stream.specs.Listing.{Lists}
 use Rattle.wl_wire.specs.Wire.{cut, cut_fault}
 use Rattle.wl_wire.specs.declared.faults.WireFault.{WireFault}
 use Rattle.wl_wire.specs.declared.faults.ObjectFault.TheVariants.{Wire}
@@ -14,10 +20,11 @@ use Rattle.waypipe_run.specs.Outcomes.{put_bytes}
 use Rattle.waypipe_run.specs.Pieces.{lines}
 use Rattle.waypipe_run.specs.Reading.{acts}
 use Rattle.waypipe_run.specs.Top.{InputState, OutputState, Outcome}
-use Rattle.waypipe_run.specs.Words.{IsReplay}
+use Rattle.waypipe_run.specs.Words.{IsReplay, IsFrames, IsCommand}
 use Rattle.waypipe_run.specs.declared.causes.Limit.TheVariants.{Input}
 use Rattle.waypipe_run.specs.declared.causes.PeerCause.TheVariants.{Object}
 use Rattle.waypipe_run.specs.declared.causes.ScriptCause.{ScriptCause}
+use Rattle.waypipe_run.specs.declared.status.Reader.TheVariants as reader
 use Rattle.waypipe_run.specs.declared.status.Status.{Status}
 use Rattle.waypipe_run.specs.declared.status.Status.TheVariants as status
 
@@ -42,13 +49,28 @@ OrHindered answer due out written = (answer ≡ due) ⊎ ((answer ≡ status.Mem
 -- words that are no command are always answered so
 abbrev pub OtherWords : Type 0
 OtherWords = (answer : Status) (words : List (String Global)) (old new : InputState) (before after : ℕ → Line) (out written : OutputState)
-  → Outcome answer words old new before after out written → (IsReplay words → ⊥) → OrHindered answer status.Usage out written
+  → Outcome answer words old new before after out written → (IsCommand words → ⊥) → OrHindered answer status.Usage out written
 
 -- the command is answered by the status that its input calls for, unless a read failed
 abbrev pub StatusOfInput : Type 0
 StatusOfInput = (answer : Status) (words : List (String Global)) (old new : InputState) (before after : ℕ → Line) (out written : OutputState) (bytes : List ℕ)
   → Outcome answer words old new before after out written → IsReplay words → old.left ≡ Some bytes
   → OrHindered answer (status_of_input bytes) out written ⊎ ((answer ≡ status.ReadFault) × Rose old.faults new.faults)
+
+-- the status of a stream, by what stands behind its whole frames
+abbrev pub status_of_front : Result (Option Frame) FrameCause → ℕ → Status
+status_of_front (Ok found) place = status.Done
+status_of_front (Err cause) place = status.Frame reader.Input 0 place cause
+
+-- the status that a stream of frames calls for
+abbrev pub status_of_stream : List ℕ → List Frame → List ℕ → Status
+status_of_stream bytes frames rest = if nat_lt MOST_INPUT (length bytes) then status.Limit Input else status_of_front (front rest) (length (flat_map spelling frames))
+
+-- the listing of a stream is answered by the status that the stream calls for, unless a read failed
+abbrev pub StatusOfStream : Type 0
+StatusOfStream = (answer : Status) (words : List (String Global)) (old new : InputState) (before after : ℕ → Line) (out written : OutputState) (bytes : List ℕ) (frames : List Frame) (rest : List ℕ)
+  → Outcome answer words old new before after out written → IsFrames words → old.left ≡ Some bytes → Lists bytes frames rest
+  → OrHindered answer (status_of_stream bytes frames rest) out written ⊎ ((answer ≡ status.ReadFault) × Rose old.faults new.faults)
 
 -- a script without a size at fault, within the limit, goes through where no read and no write fails and memory is there
 abbrev pub GoesThrough : Type 0

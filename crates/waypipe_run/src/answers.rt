@@ -7,17 +7,19 @@ ghost use Rattle.waypipe_run.specs.Reading.{acts};
 ghost use Rattle.waypipe_run.specs.Replays.{Ended, EndsReport};
 ghost use Rattle.waypipe_run.specs.Scripts.{ReadsScript, acts_in, IsCounted};
 ghost use Rattle.waypipe_run.specs.Texts.{limit_text, peer_text};
-ghost use Rattle.waypipe_run.specs.Top.{Tells, TellsText, TellsReplay};
+ghost use Rattle.waypipe_run.specs.Top.{Tells, TellsText, TellsReplay, TellsStream};
+ghost use Rattle.waypipe_run.specs.Words.{IsReplay, IsFrames};
 ghost use Rattle.wp_outside.specs.Lines.{Line};
 
 use crate::causes::{Limit, PeerCause};
+use crate::listings::answer_stream;
 use crate::reading::{ReadFault, read_all};
 use crate::replays::{End, Replayed, replay};
 use crate::report::report;
 use crate::script::{Script, ScriptFault, read_script};
 use crate::status::{Reader, Status};
 use crate::texts::{drained_text, limit_text, peer_text, read_failed_text, script_text, usage_text};
-use crate::words::is_replay;
+use crate::words::{Command, command_of};
 use std::alloc::{AllocError, Global};
 use wl_wire::ObjectFault;
 use wp_outside::{LinkStore, Side, Source};
@@ -42,11 +44,50 @@ pub fn answer<S: Source, L: LinkStore>(
         (record { left = S.left input.new; faults = S.faults input.new })
         (L.line line.old) (L.line line.new) answer.text.items) }
 {
-    if !is_replay(words) {
-        return alone(alloc, Status::Usage, usage_text());
+    match command_of(words) {
+        Some(Command::Replay) => answer_replay(alloc, words, input, line),
+        Some(Command::Frames) => answer_frames(alloc, words, input, line),
+        None => alone(alloc, Status::Usage, usage_text()),
     }
+}
+
+/// Replays the script that the input is.
+fn answer_replay<S: Source, L: LinkStore>(
+    alloc: Global,
+    words: &[String],
+    input: &mut S,
+    line: &mut L,
+) -> Result<Reply, AllocError>
+    requires command { IsReplay words.now }
+    requires nothing { NothingOpened (L.line line.old) }
+    ensures { IfOk result (λ answer. Tells answer.status words.now
+        (record { left = S.left input.old; faults = S.faults input.old })
+        (record { left = S.left input.new; faults = S.faults input.new })
+        (L.line line.old) (L.line line.new) answer.text.items) }
+{
     match read_all(alloc, input) {
         Ok(text) => answer_text(alloc, text, line),
+        Err(ReadFault::Failed) => alone(alloc, Status::ReadFault, read_failed_text()),
+        Err(ReadFault::TooLong) => limited(alloc, Limit::Input),
+        Err(ReadFault::Memory) => Err(AllocError),
+    }
+}
+
+/// Lists the frames of the input. The link stays as it is.
+fn answer_frames<S: Source, L: LinkStore>(
+    alloc: Global,
+    words: &[String],
+    input: &mut S,
+    line: &L,
+) -> Result<Reply, AllocError>
+    requires { IsFrames words.now }
+    ensures { IfOk result (λ answer. Tells answer.status words.now
+        (record { left = S.left input.old; faults = S.faults input.old })
+        (record { left = S.left input.new; faults = S.faults input.new })
+        (L.line line.now) (L.line line.now) answer.text.items) }
+{
+    match read_all(alloc, input) {
+        Ok(bytes) => answer_stream(alloc, bytes),
         Err(ReadFault::Failed) => alone(alloc, Status::ReadFault, read_failed_text()),
         Err(ReadFault::TooLong) => limited(alloc, Limit::Input),
         Err(ReadFault::Memory) => Err(AllocError),
@@ -154,7 +195,7 @@ fn refused(alloc: Global, report: Vec<u8>, index: u64, cause: PeerCause) -> Resu
 }
 
 /// A status whose text is a report and a last line.
-fn ended(status: Status, mut report: Vec<u8>, last: &str) -> Result<Reply, AllocError>
+pub fn ended(status: Status, mut report: Vec<u8>, last: &str) -> Result<Reply, AllocError>
     ensures status { IfOk result (λ answer. answer.status ≡ status) }
     ensures text { IfOk result (λ answer. answer.text.items ≡ report.items ++ last.now) }
 {

@@ -9,6 +9,7 @@ mod far;
 mod halts;
 mod hexadecimal;
 mod laws;
+mod listings;
 mod names;
 mod near;
 mod pieces;

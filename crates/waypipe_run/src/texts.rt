@@ -1,10 +1,12 @@
 //! The last lines of what the program prints.
 ghost use Rattle.std.specs.Prelude.{◌≡◌, string_bytes, IfOk};
-ghost use Rattle.waypipe_run.specs.Texts.{usage_text, read_failed_text, drained_text, script_text, peer_text, limit_text};
+ghost use Rattle.waypipe_run.specs.Texts.{usage_text, read_failed_text, drained_text, script_text, peer_text, limit_text, frame_text, rest_text};
 
 use crate::causes::{Limit, PeerCause, ScriptCause};
-use crate::names::{limit_name, peer_name, script_name, side_name};
+use crate::names::{frame_detail, frame_name, limit_name, peer_name, reader_name, script_name, side_name};
+use crate::status::Reader;
 use std::alloc::{AllocError, Global};
+use transfer_frames::FrameCause;
 use wp_outside::Side;
 
 /// The line for words that are no command.
@@ -57,4 +59,29 @@ pub fn limit_text(alloc: Global, which: Limit) -> Result<String, AllocError>
 {
     let name = limit_name(which);
     format!(in alloc; "limit {name}\n")
+}
+
+/// The line for a frame that is refused.
+#[tactic(auto, unfolding(crate::specs::Texts::frame_text))]
+pub fn frame_text(
+    alloc: Global,
+    reader: Reader,
+    connection: u32,
+    place: u64,
+    cause: FrameCause,
+) -> Result<String, AllocError>
+    ensures { IfOk result (λ text. string_bytes text ≡ frame_text reader connection place cause) }
+{
+    let reader = reader_name(reader);
+    let name = frame_name(cause);
+    let detail = frame_detail(alloc, cause)?;
+    format!(in alloc; "frame {reader} connection {connection} place {place}: {name}{detail}\n")
+}
+
+/// The line for the bytes behind the last whole frame.
+#[tactic(auto, unfolding(crate::specs::Texts::rest_text))]
+pub fn rest_text(alloc: Global, count: u64) -> Result<String, AllocError>
+    ensures { IfOk result (λ text. string_bytes text ≡ rest_text count) }
+{
+    format!(in alloc; "rest {count}\n")
 }
