@@ -6,5 +6,4 @@ pub fn status_is_decided()
     ensures words { OtherWords }
     ensures input { StatusOfInput }
     ensures complete { GoesThrough }
-{
-}
+{}

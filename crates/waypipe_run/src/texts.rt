@@ -42,7 +42,12 @@ pub fn script_text(alloc: Global, line: u32, cause: ScriptCause) -> Result<Strin
 
 /// The line for a message that is refused.
 #[tactic(auto, unfolding(crate::specs::Texts::peer_text))]
-pub fn peer_text(alloc: Global, side: Side, index: u64, cause: PeerCause) -> Result<String, AllocError>
+pub fn peer_text(
+    alloc: Global,
+    side: Side,
+    index: u64,
+    cause: PeerCause,
+) -> Result<String, AllocError>
     ensures { IfOk result (λ text. string_bytes text ≡ peer_text side index cause) }
 {
     let peer = side_name(side);
