@@ -29,22 +29,22 @@ fault_more bytes rest n m is = ap (λ r. fault_in (first r)) (rest_more bytes re
 -- the count of messages stays below the count of bytes
 pub few_more : (bytes : List ℕ) (near : Near) (m : ℕ) → Waits bytes near → near.messages + length (cut (near.framer ++ take m (drop near.taken bytes))) ≤ near.taken + m
 few_more bytes near m waits =
-  omega (arith, waits.made.count, ap length (cut_more bytes near.framer near.taken m waits.rest), length-append (cut (take near.taken bytes)) (cut (near.framer ++ take m (drop near.taken bytes))), cut_shorter (take (near.taken + m) bytes), length-take (near.taken + m) bytes)
+    omega (arith, waits.made.count, ap length (cut_more bytes near.framer near.taken m waits.rest), length-append (cut (take near.taken bytes)) (cut (near.framer ++ take m (drop near.taken bytes))), cut_shorter (take (near.taken + m) bytes), length-take (near.taken + m) bytes)
 
 -- what was made is the frames of all that was taken
 pub made_more : (bytes : List ℕ) (old new : Near) (m : ℕ) → Waits bytes old → old.taken + m ≤ length bytes → new.taken ≡ old.taken + m → MadeFrames old new (old.framer ++ take m (drop old.taken bytes)) → Made bytes new
 made_more bytes old new m waits inside taken made =
-  let more = cut_more bytes old.framer old.taken m waits.rest in
-  record {
-    inside = omega arith;
-    frames = made.made ∙ ap (λ f. f ++ frames_of (cut (old.framer ++ take m (drop old.taken bytes)))) waits.made.frames
-      ∙ sym (frames_of_append (cut (take old.taken bytes)) (cut (old.framer ++ take m (drop old.taken bytes))))
-      ∙ ap frames_of (sym more) ∙ ap (λ n. frames_of (cut (take n bytes))) (sym taken);
-    count = omega (arith, made.count, waits.made.count, ap length more, length-append (cut (take old.taken bytes)) (cut (old.framer ++ take m (drop old.taken bytes))), ap (λ n. length (cut (take n bytes))) taken);
-  }
+    let more = cut_more bytes old.framer old.taken m waits.rest in
+    record {
+      inside = omega arith;
+      frames = made.made ∙ ap (λ f. f ++ frames_of (cut (old.framer ++ take m (drop old.taken bytes)))) waits.made.frames
+          ∙ sym (frames_of_append (cut (take old.taken bytes)) (cut (old.framer ++ take m (drop old.taken bytes))))
+          ∙ ap frames_of (sym more) ∙ ap (λ n. frames_of (cut (take n bytes))) (sym taken);
+      count = omega (arith, made.count, waits.made.count, ap length more, length-append (cut (take old.taken bytes)) (cut (old.framer ++ take m (drop old.taken bytes))), ap (λ n. length (cut (take n bytes))) taken);
+    }
 
 pub waits_more : (bytes : List ℕ) (old new : Near) (m : ℕ) → Waits bytes old → old.taken + m ≤ length bytes → new.taken ≡ old.taken + m
-  → MadeFrames old new (old.framer ++ take m (drop old.taken bytes)) → new.framer ≡ cut_rest (old.framer ++ take m (drop old.taken bytes)) → cut_fault (old.framer ++ take m (drop old.taken bytes)) ≡ None → Waits bytes new
+    → MadeFrames old new (old.framer ++ take m (drop old.taken bytes)) → new.framer ≡ cut_rest (old.framer ++ take m (drop old.taken bytes)) → cut_fault (old.framer ++ take m (drop old.taken bytes)) ≡ None → Waits bytes new
 waits_more bytes old new m waits inside taken made rest fine = record {
   made = made_more bytes old new m waits inside taken made;
   rest = rest ∙ sym (rest_more bytes old.framer old.taken m waits.rest) ∙ ap (λ n. cut_rest (take n bytes)) (sym taken);
@@ -52,7 +52,7 @@ waits_more bytes old new m waits inside taken made rest fine = record {
 }
 
 pub refuses_more : (bytes : List ℕ) (old new : Near) (m : ℕ) (fault : WireFault) → Waits bytes old → old.taken + m ≤ length bytes → new.taken ≡ old.taken + m
-  → MadeFrames old new (old.framer ++ take m (drop old.taken bytes)) → cut_fault (old.framer ++ take m (drop old.taken bytes)) ≡ Some fault → Refuses bytes new fault
+    → MadeFrames old new (old.framer ++ take m (drop old.taken bytes)) → cut_fault (old.framer ++ take m (drop old.taken bytes)) ≡ Some fault → Refuses bytes new fault
 refuses_more bytes old new m fault waits inside taken made met = record {
   made = made_more bytes old new m waits inside taken made;
   met = ap (λ n. cut_fault (take n bytes)) taken ∙ fault_more bytes old.framer old.taken m waits.rest ∙ met;
@@ -61,12 +61,12 @@ refuses_more bytes old new m fault waits inside taken made met = record {
 -- frames behind those that were made
 pub grew_more : (first old new : Near) (bytes : List ℕ) → Grew first old → MadeFrames old new bytes → Grew first new
 grew_more first old new bytes grew made =
-  (grew.0 ++ frames_of (cut bytes), made.made ∙ ap (λ m. m ++ frames_of (cut bytes)) grew.1 ∙ append_assoc first.made.items grew.0 (frames_of (cut bytes)))
+    (grew.0 ++ frames_of (cut bytes), made.made ∙ ap (λ m. m ++ frames_of (cut bytes)) grew.1 ∙ append_assoc first.made.items grew.0 (frames_of (cut bytes)))
 
 -- a piece at which the near side stops
 pub take_halts : (halt : Halt) (bytes : List ℕ) (first old new : Near) (end m : ℕ) → Waits bytes old → Grew first old → old.taken + m ≤ end → end ≤ length bytes
-  → OnMade (Err halt) (new.taken ≡ old.taken + m) → MakesFrames (Err halt) old new (old.framer ++ take m (drop old.taken bytes)) → Takes (Err halt) bytes first new end
+    → OnMade (Err halt) (new.taken ≡ old.taken + m) → MakesFrames (Err halt) old new (old.framer ++ take m (drop old.taken bytes)) → Takes (Err halt) bytes first new end
 take_halts (Peer fault) bytes first old new end m waits grew ahead inside taken made =
-  (refuses_more bytes old new m fault waits (omega arith) taken made.0 made.1, grew_more first old new (old.framer ++ take m (drop old.taken bytes)) grew made.0, omega arith)
+    (refuses_more bytes old new m fault waits (omega arith) taken made.0 made.1, grew_more first old new (old.framer ++ take m (drop old.taken bytes)) grew made.0, omega arith)
 take_halts (Frame cause) bytes first old new end m waits grew ahead inside taken made = absurd made
 take_halts Memory bytes first old new end m waits grew ahead inside taken made = tt

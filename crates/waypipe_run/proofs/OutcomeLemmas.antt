@@ -44,9 +44,9 @@ pub put_all : (steps : List Step) (bytes : List ℕ) → put_by_all steps ≡ le
 put_all [] [] counted = refl
 put_all [] (byte ∷ bytes) counted = absurd (omega arith)
 put_all (s ∷ steps) bytes counted =
-  let enough : put_by s ≤ length bytes = omega arith in
-  let left : put_by_all steps ≡ length (drop (put_by s) bytes) = omega (arith, length-drop (put_by s) bytes) in
-  put_step s steps bytes enough ∙ ap (λ rest. take (put_by s) bytes ++ rest) (put_all steps (drop (put_by s) bytes) left) ∙ take-append-drop (put_by s) bytes
+    let enough : put_by s ≤ length bytes = omega arith in
+    let left : put_by_all steps ≡ length (drop (put_by s) bytes) = omega (arith, length-drop (put_by s) bytes) in
+    put_step s steps bytes enough ∙ ap (λ rest. take (put_by s) bytes ++ rest) (put_all steps (drop (put_by s) bytes) left) ∙ take-append-drop (put_by s) bytes
 
 connects_step : (s : Step) (steps : List Step) (bytes : List ℕ) → connects (acts_of (s ∷ steps) bytes) ≡ (opens s || connects (acts_of steps (drop (put_by s) bytes)))
 connects_step (step.Hex count) steps bytes = refl
@@ -113,9 +113,9 @@ no_frames (message ∷ others) whole waits = absurd (some_none (Protocol message
 -- messages whose frames are all heard are all received
 all_received : (received messages : List (List ℕ)) (rest : List ℕ) → AreMessages received → AreMessages messages → frames_of received ++ rest ≡ frames_of messages → front rest ≡ Ok None → received ≡ messages
 all_received received messages rest given whole row waits =
-  let behind = behind_given received messages rest given whole row in
-  let none : behind.others ≡ [] = no_frames behind.others behind.whole (ap front (sym behind.row) ∙ waits) in
-  sym (behind.split ∙ ap (λ others. received ++ others) none ∙ append-nil received)
+    let behind = behind_given received messages rest given whole row in
+    let none : behind.others ≡ [] = no_frames behind.others behind.whole (ap front (sym behind.row) ∙ waits) in
+    sym (behind.split ∙ ap (λ others. received ++ others) none ∙ append-nil received)
 
 has_some_frame : (bytes : List ℕ) → 0 < length bytes → has_some bytes ≡ true
 has_some_frame [] long = absurd (omega arith)
@@ -125,51 +125,53 @@ has_some_frame (byte ∷ bytes) long = refl
 frames_some : (messages : List (List ℕ)) → AreMessages messages → has_some (frames_of messages) ≡ is_some_message messages
 frames_some [] whole = refl
 frames_some (message ∷ messages) whole =
-  has_some_frame (frames_of (message ∷ messages)) (omega (arith, spelling_long (Protocol message) (message_frame message whole.0), length-append (frame_of message) (frames_of messages)))
+    has_some_frame (frames_of (message ∷ messages)) (omega (arith, spelling_long (Protocol message) (message_frame message whole.0), length-append (frame_of message) (frames_of messages)))
 
 pub went_through : (script : Script) (run : Run) (line : ℕ → Line) → IsCounted script → Ready script.bytes.items run → Carried run line → Played script.bytes.items script.steps.items run
-  → WentThrough (acts_in script) line (cond run.connected 1 0) run.near.messages run.far.received.items
+    → WentThrough (acts_in script) line (cond run.connected 1 0) run.near.messages run.far.received.items
 went_through script run line counted ready carried played =
-  let bytes = script.bytes.items in
-  let put = put_all script.steps.items bytes counted in
-  let taken : take run.near.taken bytes ≡ put_bytes (acts_in script) = ap (λ n. take n bytes) played.taken ∙ take_all (length bytes) bytes (omega arith) ∙ sym put in
-  let made : run.near.made.items ≡ frames_of (cut (put_bytes (acts_in script))) = ready.waits.made.frames ∙ ap (λ b. frames_of (cut b)) taken in
-  let sent : sent_bytes run ≡ run.near.made.items = ap (λ n. take n run.near.made.items) played.pushed ∙ take_all (length run.near.made.items) run.near.made.items (omega arith) in
-  let whole = cut_whole (put_bytes (acts_in script)) in
-  record {
-    fine = ap cut_fault (sym taken) ∙ ready.waits.fine;
-    each_once = all_received run.far.received.items (cut (put_bytes (acts_in script))) run.far.reader.front carried.heard.whole whole (sym carried.heard.row ∙ sent ∙ made) carried.heard.waits;
-    all_taken = ready.waits.made.count ∙ ap (λ b. length (cut b)) taken;
-    pushed = pushed_is run line carried ∙ sent ∙ made;
-    decoded = decoded run line carried;
-    goes_up = goes_up run line carried;
-    counted = ap (λ b. cond {A = ℕ} b 1 0) (played.connected
-      ∙ ap (λ b. b || has_some run.near.made.items) (sym (connects_all script.steps.items bytes))
-      ∙ ap (λ m. connects (acts_in script) || has_some m) made
-      ∙ ap (λ b. connects (acts_in script) || b) (frames_some (cut (put_bytes (acts_in script))) whole));
-    opened = opened_is run line carried;
-  }
+    let bytes = script.bytes.items in
+    let put = put_all script.steps.items bytes counted in
+    let taken : take run.near.taken bytes ≡ put_bytes (acts_in script) = ap (λ n. take n bytes) played.taken ∙ take_all (length bytes) bytes (omega arith) ∙ sym put in
+    let made : run.near.made.items ≡ frames_of (cut (put_bytes (acts_in script))) = ready.waits.made.frames ∙ ap (λ b. frames_of (cut b)) taken in
+    let sent : sent_bytes run ≡ run.near.made.items = ap (λ n. take n run.near.made.items) played.pushed ∙ take_all (length run.near.made.items) run.near.made.items (omega arith) in
+    let whole = cut_whole (put_bytes (acts_in script)) in
+    record {
+      fine = ap cut_fault (sym taken) ∙ ready.waits.fine;
+      each_once = all_received run.far.received.items (cut (put_bytes (acts_in script))) run.far.reader.front carried.heard.whole whole (sym carried.heard.row ∙ sent ∙ made) carried.heard.waits;
+      all_taken = ready.waits.made.count ∙ ap (λ b. length (cut b)) taken;
+      pushed = pushed_is run line carried ∙ sent ∙ made;
+      decoded = decoded run line carried;
+      goes_up = goes_up run line carried;
+      counted = ap (λ b. cond {A = ℕ} b 1 0) (played.connected
+          ∙ ap (λ b. b || has_some run.near.made.items) (sym (connects_all script.steps.items bytes))
+          ∙ ap (λ m. connects (acts_in script) || has_some m) made
+          ∙ ap (λ b. connects (acts_in script) || b) (frames_some (cut (put_bytes (acts_in script))) whole));
+      opened = opened_is run line carried;
+    }
 
 -- ---- a size at fault was met
 
 pub stopped_at : (script : Script) (run : Run) (line : ℕ → Line) (fault : WireFault) → IsCounted script → Refuses script.bytes.items run.near fault → Carried run line
-  → StoppedAt fault (acts_in script) line (cond run.connected 1 0) run.near.messages run.far.received.items
+    → StoppedAt fault (acts_in script) line (cond run.connected 1 0) run.near.messages run.far.received.items
 stopped_at script run line fault counted refuses carried =
-  let bytes = script.bytes.items in
-  let put = put_all script.steps.items bytes counted in
-  let split : take run.near.taken bytes ++ drop run.near.taken bytes ≡ put_bytes (acts_in script) = take-append-drop run.near.taken bytes ∙ sym put in
-  let stays = cut-fault-stays (take run.near.taken bytes) (drop run.near.taken bytes) fault refuses.met in
-  let cuts : cut (take run.near.taken bytes) ≡ cut (put_bytes (acts_in script)) = sym stays.0 ∙ ap cut split in
-  record {
-    met = ap cut_fault (sym split) ∙ stays.2;
-    all_before = refuses.made.count ∙ ap length cuts;
-    pushed = (drop run.pushed run.near.made.items,
-      ap (λ b. b ++ drop run.pushed run.near.made.items) (pushed_is run line carried) ∙ take-append-drop run.pushed run.near.made.items ∙ refuses.made.frames ∙ ap frames_of cuts);
-    decoded = decoded run line carried;
-    all_pulled = pulled_is run line carried ∙ sym (pushed_is run line carried);
-    goes_up = goes_up run line carried;
-    opened = opened_is run line carried;
-  }
+    let bytes = script.bytes.items in
+    let put = put_all script.steps.items bytes counted in
+    let split : take run.near.taken bytes ++ drop run.near.taken bytes ≡ put_bytes (acts_in script) = take-append-drop run.near.taken bytes ∙ sym put in
+    let stays = cut-fault-stays (take run.near.taken bytes) (drop run.near.taken bytes) fault refuses.met in
+    let cuts : cut (take run.near.taken bytes) ≡ cut (put_bytes (acts_in script)) = sym stays.0 ∙ ap cut split in
+    record {
+      met = ap cut_fault (sym split) ∙ stays.2;
+      all_before = refuses.made.count ∙ ap length cuts;
+      pushed = (
+        drop run.pushed run.near.made.items,
+        ap (λ b. b ++ drop run.pushed run.near.made.items) (pushed_is run line carried) ∙ take-append-drop run.pushed run.near.made.items ∙ refuses.made.frames ∙ ap frames_of cuts,
+      );
+      decoded = decoded run line carried;
+      all_pulled = pulled_is run line carried ∙ sym (pushed_is run line carried);
+      goes_up = goes_up run line carried;
+      opened = opened_is run line carried;
+    }
 
 same_end : (a b : End) → Some a ≡ Some b → a ≡ b
 same_end a b e = cc
@@ -179,10 +181,10 @@ none_some end e = cc
 
 -- how a replay ended
 pub ends_by : (outcome : Result (Unit {0}) Halt) (end : End) (script : Script) (run : Run) (line : ℕ → Line) → end_of outcome ≡ Some end → IsCounted script → GoesOn outcome script.bytes.items run line (Played script.bytes.items script.steps.items run)
-  → EndsBy end (acts_in script) line (cond run.connected 1 0) run.near.messages run.far.received.items
+    → EndsBy end (acts_in script) line (cond run.connected 1 0) run.near.messages run.far.received.items
 ends_by (Ok done) end script run line is counted goes =
-  subst (λ (e : End). EndsBy e (acts_in script) line (cond run.connected 1 0) run.near.messages run.far.received.items) (same_end ends.Drained end is) (went_through script run line counted goes.0 goes.1 goes.2)
+    subst (λ (e : End). EndsBy e (acts_in script) line (cond run.connected 1 0) run.near.messages run.far.received.items) (same_end ends.Drained end is) (went_through script run line counted goes.0 goes.1 goes.2)
 ends_by (Err (halts.Peer fault)) end script run line is counted goes =
-  subst (λ (e : End). EndsBy e (acts_in script) line (cond run.connected 1 0) run.near.messages run.far.received.items) (same_end (ends.Peer fault) end is) (stopped_at script run line fault counted goes.0 goes.1)
+    subst (λ (e : End). EndsBy e (acts_in script) line (cond run.connected 1 0) run.near.messages run.far.received.items) (same_end (ends.Peer fault) end is) (stopped_at script run line fault counted goes.0 goes.1)
 ends_by (Err (halts.Frame cause)) end script run line is counted goes = absurd goes
 ends_by (Err halts.Memory) end script run line is counted goes = absurd (none_some end is)

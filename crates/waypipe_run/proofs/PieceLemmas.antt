@@ -5,9 +5,9 @@ use Rattle.waypipe_run.specs.Pieces.{front, behind, lines, onto_first}
 -- a text that isn't empty is its first line, and then the lines of what stands behind the first line feed
 lines_cons : (byte : ℕ) (bytes : List ℕ) → lines (byte ∷ bytes) ≡ front 10 (byte ∷ bytes) ∷ lines (unwrap_or (behind 10 (byte ∷ bytes)) [])
 lines_cons byte [] = elim (eqb byte 10) as (λ b. cond b ([] ∷ lines []) (onto_first byte (lines [])) ≡ cond b [] (byte ∷ front 10 []) ∷ lines (unwrap_or (cond b (Some []) (behind 10 [])) []))
-  [ true ↦ refl | false ↦ refl ]
+    [ true ↦ refl | false ↦ refl ]
 lines_cons byte (next ∷ bytes) = elim (eqb byte 10) as (λ b. cond b ([] ∷ lines (next ∷ bytes)) (onto_first byte (lines (next ∷ bytes))) ≡ cond b [] (byte ∷ front 10 (next ∷ bytes)) ∷ lines (unwrap_or (cond b (Some (next ∷ bytes)) (behind 10 (next ∷ bytes))) []))
-  [ true ↦ refl | false ↦ ap (onto_first byte) (lines_cons next bytes) ]
+    [ true ↦ refl | false ↦ ap (onto_first byte) (lines_cons next bytes) ]
 
 pub lines_cut : (text : List ℕ) → 0 < length text → lines text ≡ front 10 text ∷ lines (unwrap_or (behind 10 text) [])
 lines_cut [] some = absurd (omega arith)
@@ -15,9 +15,9 @@ lines_cut (byte ∷ bytes) some = lines_cons byte bytes
 
 behind_cons : (separator byte : ℕ) (bytes : List ℕ) → length (unwrap_or (behind separator (byte ∷ bytes)) []) ≤ length bytes
 behind_cons separator byte [] = elim (eqb byte separator) as (λ b. length (unwrap_or (cond b (Some []) (behind separator [])) []) ≤ 0)
-  [ true ↦ omega arith | false ↦ omega arith ]
+    [ true ↦ omega arith | false ↦ omega arith ]
 behind_cons separator byte (next ∷ bytes) = elim (eqb byte separator) as (λ b. length (unwrap_or (cond b (Some (next ∷ bytes)) (behind separator (next ∷ bytes))) []) ≤ length (next ∷ bytes))
-  [ true ↦ omega arith | false ↦ omega (arith, behind_cons separator next bytes) ]
+    [ true ↦ omega arith | false ↦ omega (arith, behind_cons separator next bytes) ]
 
 -- what stands behind a separator is shorter
 pub behind_shorter : (separator : ℕ) (text : List ℕ) → 0 < length text → length (unwrap_or (behind separator text) []) < length text

@@ -24,12 +24,12 @@ pub acts_of_push : (steps : List Step) (bytes : List ℕ) (s : Step) (more : Lis
 acts_of_push [] [] s more counted = refl
 acts_of_push [] (byte ∷ bytes) s more counted = absurd (omega arith)
 acts_of_push (first ∷ steps) bytes s more counted =
-  let enough : put_by first ≤ length bytes = omega arith in
-  let left : put_by_all steps ≡ length (drop (put_by first) bytes) = omega (arith, length-drop (put_by first) bytes) in
-  let same : drop (put_by first) (bytes ++ more) ≡ drop (put_by first) bytes ++ more = drop-append-le (put_by first) bytes more enough in
-  ap (λ act. act ∷ acts_of (steps ++ s ∷ []) (drop (put_by first) (bytes ++ more))) (act_of_more first bytes more enough)
-  ∙ ap (λ rest. act_of first bytes ∷ acts_of (steps ++ s ∷ []) rest) same
-  ∙ ap (λ acts. act_of first bytes ∷ acts) (acts_of_push steps (drop (put_by first) bytes) s more left)
+    let enough : put_by first ≤ length bytes = omega arith in
+    let left : put_by_all steps ≡ length (drop (put_by first) bytes) = omega (arith, length-drop (put_by first) bytes) in
+    let same : drop (put_by first) (bytes ++ more) ≡ drop (put_by first) bytes ++ more = drop-append-le (put_by first) bytes more enough in
+    ap (λ act. act ∷ acts_of (steps ++ s ∷ []) (drop (put_by first) (bytes ++ more))) (act_of_more first bytes more enough)
+    ∙ ap (λ rest. act_of first bytes ∷ acts_of (steps ++ s ∷ []) rest) same
+    ∙ ap (λ acts. act_of first bytes ∷ acts) (acts_of_push steps (drop (put_by first) bytes) s more left)
 
 pub put_by_push : (steps : List Step) (s : Step) → put_by_all (steps ++ s ∷ []) ≡ put_by_all steps + put_by s
 put_by_push [] s = omega arith
@@ -42,17 +42,17 @@ behind_acts_twice before next (Err fault) = refl
 
 -- one more line behind those that were read
 pub added : (line : ℕ) (old new : Script) (means : Result (Option Act) ScriptCause) (text : List ℕ) (texts : List (List ℕ)) → means ≡ meaning text → IsAdded old new means
-  → behind_acts (acts_in new) (acts (line + 1) texts) ≡ behind_acts (acts_in old) (acts line (text ∷ texts))
+    → behind_acts (acts_in new) (acts (line + 1) texts) ≡ behind_acts (acts_in old) (acts line (text ∷ texts))
 added line old new means text texts same more = more.behind line (acts (line + 1) texts) ∙ ap (λ m. behind_acts (acts_in old) (and_then line m (acts (line + 1) texts))) same
 
 -- a line that is none, or no memory for it, ends the reading
 pub ended : (fault : ScriptFault) (old new : Script) (line : ℕ) (text : List ℕ) (texts : List (List ℕ)) (means : Result (List Act) (ℕ × ScriptCause)) → AddsLine (Err fault) old new line (meaning text)
-  → behind_acts (acts_in old) (acts line (text ∷ texts)) ≡ means → ReadsScript (Err fault) means
+    → behind_acts (acts_in old) (acts line (text ∷ texts)) ≡ means → ReadsScript (Err fault) means
 ended (Line at cause) old new line text texts means is complete =
-  sym complete ∙ ap (λ m. behind_acts (acts_in old) (and_then line m (acts (line + 1) texts))) is.0 ∙ ap (λ n. Err (n, cause)) (sym is.1)
+    sym complete ∙ ap (λ m. behind_acts (acts_in old) (and_then line m (acts (line + 1) texts))) is.0 ∙ ap (λ n. Err (n, cause)) (sym is.1)
 ended Memory old new line text texts means is complete = tt
 
 -- a step that is read behind others, whatever stands behind it
 pub pushed : (steps : List Step) (bytes : List ℕ) (s : Step) (more : List ℕ) (line : ℕ) (rest : Result (List Act) (ℕ × ScriptCause)) → put_by_all steps ≡ length bytes
-  → behind_acts (acts_of (steps ++ s ∷ []) (bytes ++ more)) rest ≡ behind_acts (acts_of steps bytes) (and_then line (Ok (Some (act_of s more))) rest)
+    → behind_acts (acts_of (steps ++ s ∷ []) (bytes ++ more)) rest ≡ behind_acts (acts_of steps bytes) (and_then line (Ok (Some (act_of s more))) rest)
 pushed steps bytes s more line rest counted = ap (λ before. behind_acts before rest) (acts_of_push steps bytes s more counted) ∙ sym (behind_acts_twice (acts_of steps bytes) (act_of s more ∷ []) rest)

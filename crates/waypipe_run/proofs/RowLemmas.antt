@@ -36,8 +36,8 @@ messages_push (first ∷ messages) message whole last = (whole.0, messages_push 
 -- the front of a list that is joined in two ways
 pub joined_front : (a b c d : List ℕ) → a ++ b ≡ c ++ d → length a ≤ length c → c ≡ a ++ drop (length a) c
 joined_front a b c d same short =
-  let front : a ≡ take (length a) c = sym (take_at a b (length a) refl) ∙ ap (take (length a)) same ∙ take-append-le (length a) c d short in
-  sym (take-append-drop (length a) c) ∙ ap (λ x. x ++ drop (length a) c) (sym front)
+    let front : a ≡ take (length a) c = sym (take_at a b (length a) refl) ∙ ap (take (length a)) same ∙ take-append-le (length a) c d short in
+    sym (take-append-drop (length a) c) ∙ ap (λ x. x ++ drop (length a) c) (sym front)
 
 -- what stands behind the first frame of a row
 pub record FirstOf (frame : Frame) (more : List ℕ) (messages : List (List ℕ)) : Type 0 where
@@ -59,23 +59,23 @@ spelling_long frame is = omega (arith, length-spelling frame)
 pub first_of_row : (frame : Frame) (more : List ℕ) (messages : List (List ℕ)) → IsFrame frame → AreMessages messages → spelling frame ++ more ≡ frames_of messages → FirstOf frame more messages
 first_of_row frame more [] is whole row = absurd (omega (arith, spelling_long frame is, length-append (spelling frame) more, ap length row))
 first_of_row frame more (message ∷ messages) is whole row =
-  let same = none_begins frame (Protocol message) more (frames_of messages) is (message_frame message whole.0) row in
-  record { message = message; others = messages; one = record { is = same.0; whole = whole.0 }; whole = whole.1; row = same.1; split = refl }
+    let same = none_begins frame (Protocol message) more (frames_of messages) is (message_frame message whole.0) row in
+    record { message = message; others = messages; one = record { is = same.0; whole = whole.0 }; whole = whole.1; row = same.1; split = refl }
 
 -- bytes that begin a row, seen from the frame in front of them
 pub first_of_begun : (frame : Frame) (bytes more : List ℕ) → IsFrame frame → bytes ≡ spelling frame ++ more → (begun : BeginsRow bytes) → FirstOf frame (more ++ begun.rest) begun.messages
 first_of_begun frame bytes more is same begun =
-  first_of_row frame (more ++ begun.rest) begun.messages is begun.whole (sym (append_assoc (spelling frame) more begun.rest) ∙ ap (λ b. b ++ begun.rest) (sym same) ∙ begun.row)
+    first_of_row frame (more ++ begun.rest) begun.messages is begun.whole (sym (append_assoc (spelling frame) more begun.rest) ∙ ap (λ b. b ++ begun.rest) (sym same) ∙ begun.row)
 
 pub begun_more : (frame : Frame) (bytes more : List ℕ) → IsFrame frame → bytes ≡ spelling frame ++ more → BeginsRow bytes → BeginsRow more
 begun_more frame bytes more is same begun =
-  let first = first_of_begun frame bytes more is same begun in
-  record { messages = first.others; rest = begun.rest; whole = first.whole; row = first.row }
+    let first = first_of_begun frame bytes more is same begun in
+    record { messages = first.others; rest = begun.rest; whole = first.whole; row = first.row }
 
 pub begun_one : (frame : Frame) (bytes more : List ℕ) → IsFrame frame → bytes ≡ spelling frame ++ more → BeginsRow bytes → (message : List ℕ) × HasOne frame message
 begun_one frame bytes more is same begun =
-  let first = first_of_begun frame bytes more is same begun in
-  (first.message, first.one)
+    let first = first_of_begun frame bytes more is same begun in
+    (first.message, first.one)
 
 -- no fault stands at the front of a row
 ok_err : {cause : FrameCause} (found : Option Frame) → Ok found ≡ Err cause → ⊥
@@ -83,20 +83,20 @@ ok_err found e = cc
 
 row_fault : (bytes rest : List ℕ) (messages : List (List ℕ)) (cause : FrameCause) → AreMessages messages → bytes ++ rest ≡ frames_of messages → front bytes ≡ Err cause → ⊥
 row_fault bytes rest [] cause whole row fault =
-  let none : length bytes < 4 = omega (arith, length-append bytes rest, ap length row) in
-  ok_err None (sym (front-short bytes none) ∙ fault)
+    let none : length bytes < 4 = omega (arith, length-append bytes rest, ap length row) in
+    ok_err None (sym (front-short bytes none) ∙ fault)
 row_fault bytes rest (message ∷ messages) cause whole row fault =
-  let frame = message_frame message whole.0 in
-  let text = frame_of message in
-  ⊎_elim
+    let frame = message_frame message whole.0 in
+    let text = frame_of message in
+    ⊎_elim
     (λ part.
-      let short : length bytes ≤ length text = omega arith in
-      let split = joined_front bytes rest text (frames_of messages) row short in
-      let left : drop (length bytes) text ≢ [] = λ e. absurd (omega (arith, part, length-drop (length bytes) text, ap length e)) in
-      ok_err None (sym (front-proper (Protocol message) bytes (drop (length bytes) text) frame split left) ∙ fault))
+    let short : length bytes ≤ length text = omega arith in
+    let split = joined_front bytes rest text (frames_of messages) row short in
+    let left : drop (length bytes) text ≢ [] = λ e. absurd (omega (arith, part, length-drop (length bytes) text, ap length e)) in
+    ok_err None (sym (front-proper (Protocol message) bytes (drop (length bytes) text) frame split left) ∙ fault))
     (λ all.
-      let split = joined_front text (frames_of messages) bytes rest (sym row) all in
-      ok_err (Some (Protocol message)) (sym (ap front split ∙ front-spelled (Protocol message) (drop (length text) bytes) frame) ∙ fault))
+    let split = joined_front text (frames_of messages) bytes rest (sym row) all in
+    ok_err (Some (Protocol message)) (sym (ap front split ∙ front-spelled (Protocol message) (drop (length text) bytes) frame) ∙ fault))
     (cases_lt (length bytes) (length text))
 
 pub begun_fault : (bytes : List ℕ) (cause : FrameCause) → BeginsRow bytes → front bytes ≡ Err cause → ⊥
@@ -118,14 +118,14 @@ pub record Behind (given messages : List (List ℕ)) (bytes : List ℕ) : Type 0
 pub behind_given : (given messages : List (List ℕ)) (bytes : List ℕ) → AreMessages given → AreMessages messages → frames_of given ++ bytes ≡ frames_of messages → Behind given messages bytes
 behind_given [] messages bytes all whole row = record { others = messages; whole = whole; row = row; split = refl }
 behind_given (first ∷ given) messages bytes all whole row =
-  let next = first_of_row (Protocol first) (frames_of given ++ bytes) messages (message_frame first all.0) whole (sym (append_assoc (frame_of first) (frames_of given) bytes) ∙ row) in
-  let rest = behind_given given next.others bytes all.1 next.whole next.row in
-  record {
-    others = rest.others;
-    whole = rest.whole;
-    row = rest.row;
-    split = next.split ∙ ap (λ m. m ∷ next.others) (sym (protocol_same first next.message next.one.is)) ∙ ap (λ ms. first ∷ ms) rest.split;
-  }
+    let next = first_of_row (Protocol first) (frames_of given ++ bytes) messages (message_frame first all.0) whole (sym (append_assoc (frame_of first) (frames_of given) bytes) ∙ row) in
+    let rest = behind_given given next.others bytes all.1 next.whole next.row in
+    record {
+      others = rest.others;
+      whole = rest.whole;
+      row = rest.row;
+      split = next.split ∙ ap (λ m. m ∷ next.others) (sym (protocol_same first next.message next.one.is)) ∙ ap (λ ms. first ∷ ms) rest.split;
+    }
 
 -- the one message of a frame
 pub in_one : (frame : Frame) (messages message : List ℕ) → messages_in frame ≡ Some messages → HasOne frame message → messages ≡ message
@@ -134,11 +134,11 @@ in_one frame messages message found one = some_same messages message (sym found 
 -- a frame that was given
 pub gave_frame : (old new : Far) (frame : Frame) (message bytes : List ℕ) → HasOne frame message → Gave old new (message ∷ []) → frames_of new.received.items ++ bytes ≡ frames_of old.received.items ++ (spelling frame ++ bytes)
 gave_frame old new frame message bytes one gave =
-  ap (λ ms. frames_of ms ++ bytes) gave.received
-  ∙ ap (λ t. t ++ bytes) (frames_of_append old.received.items (message ∷ []))
-  ∙ append_assoc (frames_of old.received.items) (frame_of message ++ []) bytes
-  ∙ ap (λ t. frames_of old.received.items ++ (t ++ bytes)) (append-nil (frame_of message))
-  ∙ ap (λ f. frames_of old.received.items ++ (spelling f ++ bytes)) (sym one.is)
+    ap (λ ms. frames_of ms ++ bytes) gave.received
+    ∙ ap (λ t. t ++ bytes) (frames_of_append old.received.items (message ∷ []))
+    ∙ append_assoc (frames_of old.received.items) (frame_of message ++ []) bytes
+    ∙ ap (λ t. frames_of old.received.items ++ (t ++ bytes)) (append-nil (frame_of message))
+    ∙ ap (λ f. frames_of old.received.items ++ (spelling f ++ bytes)) (sym one.is)
 
 -- what stops a call stops the one above
 pub or_memory : (P Q : Type 0) (halt : Halt) → OrMemory (Err halt) P → OrMemory (Err halt) Q
@@ -150,7 +150,7 @@ or_memory P Q halts.Memory stopped = tt
 pub heard_piece : (old fed new : Far) (piece : List ℕ) → fed.received ≡ old.received → fed.reader.front ≡ old.reader.front ++ piece → GaveFrames fed new → (bytes : List ℕ) → Heard bytes old → Heard (bytes ++ piece) new
 heard_piece old fed new piece same held gave bytes heard = record {
   row = ap (λ b. b ++ piece) heard.row ∙ append_assoc (frames_of old.received.items) old.reader.front piece
-    ∙ ap (λ t. frames_of old.received.items ++ t) (sym held) ∙ ap (λ r. frames_of r.items ++ fed.reader.front) (sym same) ∙ sym gave.row;
+      ∙ ap (λ t. frames_of old.received.items ++ t) (sym held) ∙ ap (λ r. frames_of r.items ++ fed.reader.front) (sym same) ∙ sym gave.row;
   waits = gave.waits;
   whole = gave.whole (subst (λ r. AreMessages r.items) (sym same) heard.whole);
 }

@@ -35,10 +35,10 @@ none_other old new change none became = λ connection other. became.others conne
 -- a piece on its way begins what is left of the row
 pub begun_piece : (made : List ℕ) (pushed : ℕ) (far : Far) (pulled waiting piece later : List ℕ) → BeginsRow made → pulled ++ waiting ≡ take pushed made → waiting ≡ piece ++ later → Heard pulled far → BeginsRow (far.reader.front ++ piece)
 begun_piece made pushed far pulled waiting piece later begun whole split heard =
-  let front = far.reader.front in
-  let behind = drop pushed made ++ begun.rest in
-  let given = far.received.items in
-  let row : frames_of given ++ (front ++ (waiting ++ behind)) ≡ frames_of begun.messages =
+    let front = far.reader.front in
+    let behind = drop pushed made ++ begun.rest in
+    let given = far.received.items in
+    let row : frames_of given ++ (front ++ (waiting ++ behind)) ≡ frames_of begun.messages =
     sym (append_assoc (frames_of given) front (waiting ++ behind))
     ∙ ap (λ b. b ++ (waiting ++ behind)) (sym heard.row)
     ∙ sym (append_assoc pulled waiting behind)
@@ -46,15 +46,15 @@ begun_piece made pushed far pulled waiting piece later begun whole split heard =
     ∙ sym (append_assoc (take pushed made) (drop pushed made) begun.rest)
     ∙ ap (λ b. b ++ begun.rest) (take-append-drop pushed made)
     ∙ begun.row in
-  let rest = behind_given given begun.messages (front ++ (waiting ++ behind)) heard.whole begun.whole row in
-  record {
-    messages = rest.others;
-    rest = later ++ behind;
-    whole = rest.whole;
-    row = append_assoc front piece (later ++ behind)
-      ∙ ap (λ b. front ++ b) (sym (append_assoc piece later behind) ∙ ap (λ b. b ++ behind) (sym split))
-      ∙ rest.row;
-  }
+    let rest = behind_given given begun.messages (front ++ (waiting ++ behind)) heard.whole begun.whole row in
+    record {
+      messages = rest.others;
+      rest = later ++ behind;
+      whole = rest.whole;
+      row = append_assoc front piece (later ++ behind)
+          ∙ ap (λ b. front ++ b) (sym (append_assoc piece later behind) ∙ ap (λ b. b ++ behind) (sym split))
+          ∙ rest.row;
+    }
 
 -- the frames that were made are a row
 made_row : (bytes : List ℕ) (near : Near) → Made bytes near → BeginsRow near.made.items
@@ -68,39 +68,38 @@ made_row bytes near made = record {
 -- what was pushed stays, where more frames are made
 pub carried_grown : (bytes : List ℕ) (old : Run) (near : Near) (line : ℕ → Line) → Made bytes near → Grew old.near near → Carried old line → Carried (record old { near = near }) line
 carried_grown bytes old near line made grew carried =
-  let same : take old.pushed near.made.items ≡ sent_bytes old = ap (take old.pushed) grew.1 ∙ take-append-le old.pushed old.near.made.items grew.0 carried.inside in
-  record {
-    row = made_row bytes near made;
-    inside = omega (arith, carried.inside, ap length grew.1, length-append old.near.made.items grew.0);
-    here = carried.here ∙ ap (quiet_line old.connected) (sym same);
-    others = carried.others;
-    idle = carried.idle;
-    heard = subst (λ (b : List ℕ). Heard b old.far) (sym same) carried.heard;
-  }
+    let same : take old.pushed near.made.items ≡ sent_bytes old = ap (take old.pushed) grew.1 ∙ take-append-le old.pushed old.near.made.items grew.0 carried.inside in
+    record {
+      row = made_row bytes near made;
+      inside = omega (arith, carried.inside, ap length grew.1, length-append old.near.made.items grew.0);
+      here = carried.here ∙ ap (quiet_line old.connected) (sym same);
+      others = carried.others;
+      idle = carried.idle;
+      heard = subst (λ (b : List ℕ). Heard b old.far) (sym same) carried.heard;
+    }
 
 -- bytes of the wire were taken
 pub took_bytes : (result : Result (Unit {0}) Halt) (bytes : List ℕ) (old : Run) (near : Near) (most end : ℕ) → Takes result bytes old.near near end → end ≡ min old.put (old.near.taken + most) → Ready bytes old
-  → (line : ℕ → Line) → Carried old line → GoesOn result bytes (record old { near = near }) line (TookBytes old (record old { near = near }) most)
-took_bytes (Ok done) bytes old near most end takes is ready line carried =
-  (
-    record { waits = takes.0; ahead = omega (arith, takes.2, is); inside = ready.inside },
-    carried_grown bytes old near line takes.0.made takes.1 carried,
-    record { taken = takes.2 ∙ is; grew = takes.1; put = refl; pushed = refl; connected = refl },
-  )
+    → (line : ℕ → Line) → Carried old line → GoesOn result bytes (record old { near = near }) line (TookBytes old (record old { near = near }) most)
+took_bytes (Ok done) bytes old near most end takes is ready line carried = (
+  record { waits = takes.0; ahead = omega (arith, takes.2, is); inside = ready.inside },
+  carried_grown bytes old near line takes.0.made takes.1 carried,
+  record { taken = takes.2 ∙ is; grew = takes.1; put = refl; pushed = refl; connected = refl },
+)
 took_bytes (Err (halts.Peer fault)) bytes old near most end takes is ready line carried = (takes.0, carried_grown bytes old near line takes.0.made takes.1 carried)
 took_bytes (Err (halts.Frame cause)) bytes old near most end takes is ready line carried = absurd takes
 took_bytes (Err halts.Memory) bytes old near most end takes is ready line carried = tt
 
 -- a piece was pulled and heard
 pub pulled_piece : (old : Run) (far : Far) (first next : ℕ → Line) (left count : ℕ) (piece : List ℕ) (pulling : Pulling old first left) → Became first next 1 (pulled_from Up count) → piece ≡ take count pulling.waiting → count ≤ left
-  → Hears old.far far piece → Pulling (record old { far = far }) next (left - count)
+    → Hears old.far far piece → Pulling (record old { far = far }) next (left - count)
 pulled_piece old far first next left count piece pulling became is fits hears = record {
   pulled = pulling.pulled ++ piece;
   waiting = drop count pulling.waiting;
   here = line_pulled first next (sent_bytes old) pulling.pulled pulling.waiting count pulling.here became ∙ ap (λ p. open_line (sent_bytes old) (pulling.pulled ++ p) (drop count pulling.waiting)) (sym is);
   others = none_other first next (pulled_from Up count) pulling.others became;
   whole = append_assoc pulling.pulled piece (drop count pulling.waiting) ∙ ap (λ p. pulling.pulled ++ (p ++ drop count pulling.waiting)) is
-    ∙ ap (λ b. pulling.pulled ++ b) (take-append-drop count pulling.waiting) ∙ pulling.whole;
+      ∙ ap (λ b. pulling.pulled ++ b) (take-append-drop count pulling.waiting) ∙ pulling.whole;
   few = omega (arith, pulling.few, length-drop count pulling.waiting);
   heard = hears pulling.pulled pulling.heard;
 }
@@ -115,16 +114,16 @@ true_false e = cc
 -- nothing is on its way any more
 pub pulled_all : (run : Run) (line : ℕ → Line) (left : ℕ) → BeginsRow run.near.made.items → run.pushed ≤ length run.near.made.items → run.connected ≡ true → (pulling : Pulling run line left) → length pulling.waiting ≡ 0 → Carried run line
 pulled_all run line left row inside opened pulling none =
-  let empty : pulling.waiting ≡ [] = no_bytes pulling.waiting none in
-  let all : pulling.pulled ≡ sent_bytes run = sym (append-nil pulling.pulled) ∙ ap (λ w. pulling.pulled ++ w) (sym empty) ∙ pulling.whole in
-  record {
-    row = row;
-    inside = inside;
-    here = pulling.here ∙ ap (λ w. open_line (sent_bytes run) pulling.pulled w) empty ∙ ap (λ p. open_line (sent_bytes run) p []) all ∙ ap (λ b. quiet_line b (sent_bytes run)) (sym opened);
-    others = pulling.others;
-    idle = λ closed. absurd (true_false (sym opened ∙ closed));
-    heard = subst (λ (b : List ℕ). Heard b run.far) all pulling.heard;
-  }
+    let empty : pulling.waiting ≡ [] = no_bytes pulling.waiting none in
+    let all : pulling.pulled ≡ sent_bytes run = sym (append-nil pulling.pulled) ∙ ap (λ w. pulling.pulled ++ w) (sym empty) ∙ pulling.whole in
+    record {
+      row = row;
+      inside = inside;
+      here = pulling.here ∙ ap (λ w. open_line (sent_bytes run) pulling.pulled w) empty ∙ ap (λ p. open_line (sent_bytes run) p []) all ∙ ap (λ b. quiet_line b (sent_bytes run)) (sym opened);
+      others = pulling.others;
+      idle = λ closed. absurd (true_false (sym opened ∙ closed));
+      heard = subst (λ (b : List ℕ). Heard b run.far) all pulling.heard;
+    }
 
 -- a pull that gave nothing leaves the line as it was
 pub pulled_none : (run : Run) (first next : ℕ → Line) (left : ℕ) (pulling : Pulling run first left) → Became first next 1 (pulled_from Up 0) → length pulling.waiting ≡ 0 → Pulling run next left

@@ -18,28 +18,28 @@ use Rattle.waypipe_run.specs.declared.status.Status.TheVariants as status
 
 -- the lines of a row of frames, and what the listing ends with
 ends_told : (answer : Status) (end : StreamEnd) (bytes lines text : List ℕ) (frames : List Frame) (rest : List ℕ)
-  → Lists bytes frames rest → lines ≡ text_of 0 frames → EndsSo end frames rest → EndsListing answer end lines text → TellsStream answer bytes text
+    → Lists bytes frames rest → lines ≡ text_of 0 frames → EndsSo end frames rest → EndsListing answer end lines text → TellsStream answer bytes text
 ends_told answer (Rest count) bytes lines text frames rest lists is so ends =
-  let listed : Listed bytes text = record {
-    frames = frames;
-    rest = rest;
-    lists = lists;
-    waits = so.0;
-    printed = ends.1 ∙ ap (λ l. l ++ rest_text count) is ∙ ap (λ n. text_of 0 frames ++ rest_text n) so.1;
-  } in
-  subst (λ (a : Status). TellsStream a bytes text) (sym ends.0) listed
+    let listed : Listed bytes text = record {
+      frames = frames;
+      rest = rest;
+      lists = lists;
+      waits = so.0;
+      printed = ends.1 ∙ ap (λ l. l ++ rest_text count) is ∙ ap (λ n. text_of 0 frames ++ rest_text n) so.1;
+    } in
+    subst (λ (a : Status). TellsStream a bytes text) (sym ends.0) listed
 ends_told answer (Fault place cause) bytes lines text frames rest lists is so ends =
-  let listed : ListedFault reader.Input 0 place cause bytes text = record {
-    frames = frames;
-    rest = rest;
-    lists = lists;
-    fault = so.0;
-    input = refl;
-    no_connection = refl;
-    behind = so.1;
-    printed = ends.1 ∙ ap (λ l. l ++ frame_text reader.Input 0 place cause) is;
-  } in
-  subst (λ (a : Status). TellsStream a bytes text) (sym ends.0) listed
+    let listed : ListedFault reader.Input 0 place cause bytes text = record {
+      frames = frames;
+      rest = rest;
+      lists = lists;
+      fault = so.0;
+      input = refl;
+      no_connection = refl;
+      behind = so.1;
+      printed = ends.1 ∙ ap (λ l. l ++ frame_text reader.Input 0 place cause) is;
+    } in
+    subst (λ (a : Status). TellsStream a bytes text) (sym ends.0) listed
 
 -- the answer to a stream, from its listing
 pub listing_told : (answer : Status) (bytes text : List ℕ) (listing : Listing) → IsListing bytes listing → EndsListing answer listing.stream_end listing.lines text → TellsStream answer bytes text

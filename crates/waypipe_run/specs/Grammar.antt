@@ -60,20 +60,20 @@ take_of rest = if bytes_eq (front 32 rest) (codes "app") then take_line (behind 
 -- a first word with nothing behind it
 abbrev pub lone_word : List ℕ → Result (Option Act) ScriptCause
 lone_word word =
-  if bytes_eq word (codes "connect") then Ok (Some Connect) else
-  (if bytes_eq word (codes "app") then Err Form else
-  (if bytes_eq word (codes "take") then Err Form else
-  (if bytes_eq word (codes "up") then Err Form else
-  (if bytes_eq word (codes "drain") then Err Form else Err Word))))
+    if bytes_eq word (codes "connect") then Ok (Some Connect) else
+    (if bytes_eq word (codes "app") then Err Form else
+    (if bytes_eq word (codes "take") then Err Form else
+    (if bytes_eq word (codes "up") then Err Form else
+    (if bytes_eq word (codes "drain") then Err Form else Err Word))))
 
 -- a first word and what stands behind the space
 abbrev pub word_with : List ℕ → List ℕ → Result (Option Act) ScriptCause
 word_with word rest =
-  if bytes_eq word (codes "app") then app_line rest else
-  (if bytes_eq word (codes "take") then take_of rest else
-  (if bytes_eq word (codes "up") then counted Up (count_of rest) else
-  (if bytes_eq word (codes "drain") then counted Drain (count_of rest) else
-  (if bytes_eq word (codes "connect") then Err Form else Err Word))))
+    if bytes_eq word (codes "app") then app_line rest else
+    (if bytes_eq word (codes "take") then take_of rest else
+    (if bytes_eq word (codes "up") then counted Up (count_of rest) else
+    (if bytes_eq word (codes "drain") then counted Drain (count_of rest) else
+    (if bytes_eq word (codes "connect") then Err Form else Err Word))))
 
 abbrev pub words : List ℕ → Option (List ℕ) → Result (Option Act) ScriptCause
 words word None = lone_word word

@@ -18,8 +18,8 @@ got_all (message ∷ messages) = got message ++ got_all messages
 -- the lines above those of the messages
 unfoldable pub counts : ℕ → ℕ → ℕ → List ℕ
 counts connections sent received =
-  codes "connections " ++ (decimal connections ++ (codes "\napplication sent " ++ (decimal sent
-  ++ (codes " received 0\ncompositor sent 0 received " ++ (decimal received ++ (10 ∷ []))))))
+    codes "connections " ++ (decimal connections ++ (codes "\napplication sent " ++ (decimal sent
+    ++ (codes " received 0\ncompositor sent 0 received " ++ (decimal received ++ (10 ∷ []))))))
 
 -- the report without its last line
 abbrev pub report : ℕ → ℕ → List (List ℕ) → List ℕ

@@ -19,7 +19,7 @@ open_line pushed pulled waiting = record {
   was_opened = true;
   is_up = true;
   up = record { pushed = pushed; pulled = pulled; waiting = waiting; was_spoiled = false };
-  down = fresh_lane
+  down = fresh_lane;
 }
 
 -- connection 1, where all that was pushed was pulled, or where it was never opened

@@ -28,8 +28,8 @@ limit_text which = codes "limit " ++ (limit_name which ++ (10 ∷ []))
 
 unfoldable pub frame_text : Reader → ℕ → ℕ → FrameCause → List ℕ
 frame_text reader connection place cause =
-  codes "frame " ++ (reader_name reader ++ (codes " connection " ++ (decimal connection ++ (codes " place " ++ (decimal place
-  ++ (codes ": " ++ (frame_name cause ++ (frame_detail cause ++ (10 ∷ [])))))))))
+    codes "frame " ++ (reader_name reader ++ (codes " connection " ++ (decimal connection ++ (codes " place " ++ (decimal place
+    ++ (codes ": " ++ (frame_name cause ++ (frame_detail cause ++ (10 ∷ [])))))))))
 
 unfoldable pub rest_text : ℕ → List ℕ
 rest_text count = codes "rest " ++ (decimal count ++ (10 ∷ []))

@@ -49,13 +49,13 @@ OrHindered answer due out written = (answer ≡ due) ⊎ ((answer ≡ status.Mem
 -- words that are no command are always answered so
 abbrev pub OtherWords : Type 0
 OtherWords = (answer : Status) (words : List (String Global)) (old new : InputState) (before after : ℕ → Line) (out written : OutputState)
-  → Outcome answer words old new before after out written → (IsCommand words → ⊥) → OrHindered answer status.Usage out written
+    → Outcome answer words old new before after out written → (IsCommand words → ⊥) → OrHindered answer status.Usage out written
 
 -- the command is answered by the status that its input calls for, unless a read failed
 abbrev pub StatusOfInput : Type 0
 StatusOfInput = (answer : Status) (words : List (String Global)) (old new : InputState) (before after : ℕ → Line) (out written : OutputState) (bytes : List ℕ)
-  → Outcome answer words old new before after out written → IsReplay words → old.left ≡ Some bytes
-  → OrHindered answer (status_of_input bytes) out written ⊎ ((answer ≡ status.ReadFault) × Rose old.faults new.faults)
+    → Outcome answer words old new before after out written → IsReplay words → old.left ≡ Some bytes
+    → OrHindered answer (status_of_input bytes) out written ⊎ ((answer ≡ status.ReadFault) × Rose old.faults new.faults)
 
 -- the status of a stream, by what stands behind its whole frames
 abbrev pub status_of_front : Result (Option Frame) FrameCause → ℕ → Status
@@ -69,13 +69,13 @@ status_of_stream bytes frames rest = if nat_lt MOST_INPUT (length bytes) then st
 -- the listing of a stream is answered by the status that the stream calls for, unless a read failed
 abbrev pub StatusOfStream : Type 0
 StatusOfStream = (answer : Status) (words : List (String Global)) (old new : InputState) (before after : ℕ → Line) (out written : OutputState) (bytes : List ℕ) (frames : List Frame) (rest : List ℕ)
-  → Outcome answer words old new before after out written → IsFrames words → old.left ≡ Some bytes → Lists bytes frames rest
-  → OrHindered answer (status_of_stream bytes frames rest) out written ⊎ ((answer ≡ status.ReadFault) × Rose old.faults new.faults)
+    → Outcome answer words old new before after out written → IsFrames words → old.left ≡ Some bytes → Lists bytes frames rest
+    → OrHindered answer (status_of_stream bytes frames rest) out written ⊎ ((answer ≡ status.ReadFault) × Rose old.faults new.faults)
 
 -- a script without a size at fault, within the limit, goes through where no read and no write fails and memory is there
 abbrev pub GoesThrough : Type 0
 GoesThrough = (answer : Status) (words : List (String Global)) (old new : InputState) (before after : ℕ → Line) (out written : OutputState) (bytes : List ℕ) (script : List Act)
-  → Outcome answer words old new before after out written → IsReplay words → old.left ≡ Some bytes
-  → length bytes ≤ MOST_INPUT → acts 1 (lines bytes) ≡ Ok script → cut_fault (put_bytes script) ≡ None
-  → (Rose old.faults new.faults → ⊥) → (Rose out.faults written.faults → ⊥)
-  → (answer ≡ status.Done) ⊎ (answer ≡ status.Memory)
+    → Outcome answer words old new before after out written → IsReplay words → old.left ≡ Some bytes
+    → length bytes ≤ MOST_INPUT → acts 1 (lines bytes) ≡ Ok script → cut_fault (put_bytes script) ≡ None
+    → (Rose old.faults new.faults → ⊥) → (Rose out.faults written.faults → ⊥)
+    → (answer ≡ status.Done) ⊎ (answer ≡ status.Memory)

@@ -18,7 +18,9 @@ use crate::replays::{End, Replayed, replay};
 use crate::report::report;
 use crate::script::{Script, ScriptFault, read_script};
 use crate::status::{Reader, Status};
-use crate::texts::{drained_text, limit_text, peer_text, read_failed_text, script_text, usage_text};
+use crate::texts::{
+    drained_text, limit_text, peer_text, read_failed_text, script_text, usage_text,
+};
 use crate::words::{Command, command_of};
 use std::alloc::{AllocError, Global};
 use wl_wire::ObjectFault;
@@ -117,7 +119,11 @@ fn limited(alloc: Global, which: Limit) -> Result<Reply, AllocError>
 }
 
 /// Replays the script that a text is.
-fn answer_text<L: LinkStore>(alloc: Global, text: Vec<u8>, line: &mut L) -> Result<Reply, AllocError>
+fn answer_text<L: LinkStore>(
+    alloc: Global,
+    text: Vec<u8>,
+    line: &mut L,
+) -> Result<Reply, AllocError>
     requires nothing { NothingOpened (L.line line.old) }
     requires short { length text.items < 2 ^ 31 }
     ensures { IfOk result (λ answer. TellsText answer.status text.items (L.line line.old) (L.line line.new) answer.text.items) }
@@ -141,7 +147,11 @@ fn script_of(alloc: Global, text: Vec<u8>) -> Result<Script, ScriptFault>
 }
 
 /// Replays a script.
-fn answer_script<L: LinkStore>(alloc: Global, script: Script, line: &mut L) -> Result<Reply, AllocError>
+fn answer_script<L: LinkStore>(
+    alloc: Global,
+    script: Script,
+    line: &mut L,
+) -> Result<Reply, AllocError>
     requires nothing { NothingOpened (L.line line.old) }
     requires counted { IsCounted script }
     ensures { IfOk result (λ answer. TellsReplay answer.status (acts_in script) (L.line line.new) answer.text.items) }
@@ -157,7 +167,12 @@ fn answer_replayed(alloc: Global, replayed: Replayed) -> Result<Reply, AllocErro
     ensures { (script : List Act) (line : ℕ → Line) → Ended replayed script line
         → IfOk result (λ answer. TellsReplay answer.status script line answer.text.items) }
 {
-    match report(alloc, replayed.connections, replayed.sent, replayed.received.as_slice()) {
+    match report(
+        alloc,
+        replayed.connections,
+        replayed.sent,
+        replayed.received.as_slice(),
+    ) {
         Ok(text) => end_report(alloc, text, replayed.sent, replayed.end),
         Err(error) => Err(error),
     }
@@ -169,7 +184,12 @@ fn end_report(alloc: Global, report: Vec<u8>, sent: u64, end: End) -> Result<Rep
 {
     match end {
         End::Drained => ended(Status::Done, report, drained_text()),
-        End::Peer(fault) => refused(alloc, report, sent, PeerCause::Object(ObjectFault::Wire(fault))),
+        End::Peer(fault) => refused(
+            alloc,
+            report,
+            sent,
+            PeerCause::Object(ObjectFault::Wire(fault)),
+        ),
         End::Frame(cause) => Ok(Reply {
             status: Status::Frame {
                 reader: Reader::Far,
@@ -183,7 +203,12 @@ fn end_report(alloc: Global, report: Vec<u8>, sent: u64, end: End) -> Result<Rep
 }
 
 /// A message of the application that is refused.
-fn refused(alloc: Global, report: Vec<u8>, index: u64, cause: PeerCause) -> Result<Reply, AllocError>
+fn refused(
+    alloc: Global,
+    report: Vec<u8>,
+    index: u64,
+    cause: PeerCause,
+) -> Result<Reply, AllocError>
     ensures status { IfOk result (λ answer. answer.status ≡ Status.Peer Side.Near index cause) }
     ensures text { IfOk result (λ answer. answer.text.items ≡ report.items ++ peer_text Side.Near index cause) }
 {
@@ -200,7 +225,10 @@ pub fn ended(status: Status, mut report: Vec<u8>, last: &str) -> Result<Reply, A
     ensures text { IfOk result (λ answer. answer.text.items ≡ report.items ++ last.now) }
 {
     match report.extend_from_slice(last.as_bytes()) {
-        Ok(()) => Ok(Reply { status, text: report }),
+        Ok(()) => Ok(Reply {
+            status,
+            text: report,
+        }),
         Err(error) => Err(error),
     }
 }

@@ -7,5 +7,4 @@ pub fn status_is_decided()
     ensures input { StatusOfInput }
     ensures stream { StatusOfStream }
     ensures complete { GoesThrough }
-{
-}
+{}

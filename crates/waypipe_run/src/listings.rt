@@ -42,7 +42,16 @@ fn refuse(alloc: Global, lines: Vec<u8>, place: u64, cause: FrameCause) -> Resul
     let reader = Reader::Input;
     let connection = 0;
     match frame_text(alloc, reader, connection, place, cause) {
-        Ok(text) => ended(Status::Frame { reader, connection, place, cause }, lines, text.as_str()),
+        Ok(text) => ended(
+            Status::Frame {
+                reader,
+                connection,
+                place,
+                cause,
+            },
+            lines,
+            text.as_str(),
+        ),
         Err(error) => Err(error),
     }
 }

@@ -23,12 +23,11 @@ mod script;
 mod script_line;
 mod status;
 mod steps;
+#[cfg(test)]
+mod tests;
 mod texts;
 mod words;
 mod writing;
-
-#[cfg(test)]
-mod tests;
 
 use plain::run_plain;
 use status::Status;
@@ -42,7 +41,13 @@ fn main(rt: HostRuntime) -> ExitCode {
             let mut input = StdSource::new(rt.stdin());
             let mut output = StdSink::new(rt.stdout());
             let mut line = LineStore::new(rt.alloc());
-            run_plain(rt.alloc(), words.as_slice(), &mut input, &mut output, &mut line)
+            run_plain(
+                rt.alloc(),
+                words.as_slice(),
+                &mut input,
+                &mut output,
+                &mut line,
+            )
         }
         None => Status::Memory,
     };

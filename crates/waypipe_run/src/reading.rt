@@ -49,7 +49,11 @@ pub fn zeros(alloc: Global, count: usize) -> Result<Vec<u8>, AllocError>
 }
 
 /// Reads all bytes that are left, by this piece, into a vector that is empty.
-fn read_pieces<S: Source>(input: &mut S, piece: &mut [u8], mut bytes: Vec<u8>) -> Result<Vec<u8>, ReadFault>
+fn read_pieces<S: Source>(
+    input: &mut S,
+    piece: &mut [u8],
+    mut bytes: Vec<u8>,
+) -> Result<Vec<u8>, ReadFault>
     requires piece { 0 < length piece.old }
     requires none { bytes.items ≡ [] }
     ensures answer { ReadsAll (read_items result) (S.left input.old) (S.left input.new) (S.faults input.old) (S.faults input.new) }

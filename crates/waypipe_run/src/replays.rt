@@ -39,7 +39,11 @@ pub struct Replayed {
 }
 
 /// Replays a script over a link on which nothing was opened.
-pub fn replay<L: LinkStore>(alloc: Global, script: &Script, line: &mut L) -> Result<Replayed, AllocError>
+pub fn replay<L: LinkStore>(
+    alloc: Global,
+    script: &Script,
+    line: &mut L,
+) -> Result<Replayed, AllocError>
     requires nothing { NothingOpened (L.line line.old) }
     requires counted { IsCounted script.now }
     ensures { IfOk result (λ replayed. Ended replayed (acts_in script.now) (L.line line.new)) }
@@ -55,7 +59,12 @@ pub fn replay<L: LinkStore>(alloc: Global, script: &Script, line: &mut L) -> Res
 }
 
 /// Does the steps of a script, and then rounds of the size that its last `drain` sets.
-fn play<L: LinkStore>(run: &mut Run, script: &Script, line: &mut L, piece: &mut [u8]) -> Result<(), Halt>
+fn play<L: LinkStore>(
+    run: &mut Run,
+    script: &Script,
+    line: &mut L,
+    piece: &mut [u8],
+) -> Result<(), Halt>
     requires ready { Ready script.now.bytes.items run.old }
     requires carried { Carried run.old (L.line line.old) }
     requires unused { Unused run.old }

@@ -8,7 +8,12 @@ use std::alloc::{AllocError, Global};
 use wl_wire::Message;
 
 /// The report without its last line.
-pub fn report(alloc: Global, connections: u32, sent: u64, received: &[Message]) -> Result<Vec<u8>, AllocError>
+pub fn report(
+    alloc: Global,
+    connections: u32,
+    sent: u64,
+    received: &[Message],
+) -> Result<Vec<u8>, AllocError>
     ensures { IfOk result (λ text. text.items ≡ report connections sent received.now) }
 {
     let counts = counts(alloc, connections, sent, received.len())?;
@@ -22,7 +27,9 @@ pub fn report(alloc: Global, connections: u32, sent: u64, received: &[Message]) 
 fn counts(alloc: Global, connections: u32, sent: u64, received: usize) -> Result<String, AllocError>
     ensures { IfOk result (λ text. string_bytes text ≡ counts connections sent received) }
 {
-    format!(in alloc; "connections {connections}\napplication sent {sent} received 0\ncompositor sent 0 received {received}\n")
+    format!(in alloc;
+        "connections {connections}\napplication sent {sent} received 0\ncompositor sent 0 received {received}\n"
+    )
 }
 
 /// Appends a line for each message.

@@ -27,7 +27,13 @@ impl Run {
     }
 
     /// Does one step of a script.
-    pub fn step<L: LinkStore>(&mut self, step: Step, bytes: &[u8], line: &mut L, piece: &mut [u8]) -> Result<(), Halt>
+    pub fn step<L: LinkStore>(
+        &mut self,
+        step: Step,
+        bytes: &[u8],
+        line: &mut L,
+        piece: &mut [u8],
+    ) -> Result<(), Halt>
         requires ready { Ready bytes.now self.old }
         requires carried { Carried self.old (L.line line.old) }
         requires piece { 0 < length piece.old }
@@ -50,7 +56,13 @@ impl Run {
     }
 
     /// Rounds until one would change nothing: first until all is taken, then until all went over the link.
-    pub fn drain<L: LinkStore>(&mut self, most: usize, bytes: &[u8], line: &mut L, piece: &mut [u8]) -> Result<(), Halt>
+    pub fn drain<L: LinkStore>(
+        &mut self,
+        most: usize,
+        bytes: &[u8],
+        line: &mut L,
+        piece: &mut [u8],
+    ) -> Result<(), Halt>
         requires ready { Ready bytes.now self.old }
         requires carried { Carried self.old (L.line line.old) }
         requires piece { 0 < length piece.old }
@@ -74,7 +86,13 @@ impl Run {
     }
 
     /// One round of the size `most`.
-    fn round<L: LinkStore>(&mut self, most: usize, bytes: &[u8], line: &mut L, piece: &mut [u8]) -> Result<(), Halt>
+    fn round<L: LinkStore>(
+        &mut self,
+        most: usize,
+        bytes: &[u8],
+        line: &mut L,
+        piece: &mut [u8],
+    ) -> Result<(), Halt>
         requires ready { Ready bytes.now self.old }
         requires carried { Carried self.old (L.line line.old) }
         requires piece { 0 < length piece.old }

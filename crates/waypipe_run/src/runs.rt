@@ -55,7 +55,12 @@ impl Run {
 
     /// Pushes up to so many bytes of frames and pulls as many, where the connection is open. The piece is room for what
     /// is pulled at once.
-    pub fn up<L: LinkStore>(&mut self, most: usize, line: &mut L, piece: &mut [u8]) -> Result<(), Halt>
+    pub fn up<L: LinkStore>(
+        &mut self,
+        most: usize,
+        line: &mut L,
+        piece: &mut [u8],
+    ) -> Result<(), Halt>
         requires carried { Carried self.old (L.line line.old) }
         requires piece { 0 < length piece.old }
         ensures { OrMemory result (Carried self.new (L.line line.new) × PushedBytes self.old self.new most) }
@@ -88,7 +93,12 @@ impl Run {
     }
 
     /// Pulls up to so many bytes, in pieces, and lets the far side hear them.
-    fn pull<L: LinkStore>(&mut self, most: usize, line: &mut L, piece: &mut [u8]) -> Result<(), Halt>
+    fn pull<L: LinkStore>(
+        &mut self,
+        most: usize,
+        line: &mut L,
+        piece: &mut [u8],
+    ) -> Result<(), Halt>
         requires row { BeginsRow self.old.near.made.items }
         requires inside { self.old.pushed ≤ length self.old.near.made.items }
         requires open { self.old.connected ≡ true }

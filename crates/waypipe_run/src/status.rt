@@ -31,7 +31,10 @@ pub enum Status {
     /// The output was not written whole.
     WriteFault,
     /// The first line that is no line of a script, counted from 1, and why.
-    Script { line: u32, cause: ScriptCause },
+    Script {
+        line: u32,
+        cause: ScriptCause,
+    },
     /// What a peer sent is refused: the side beside it, the count of messages taken before, and why.
     Peer {
         side: Side,
@@ -46,7 +49,9 @@ pub enum Status {
         cause: FrameCause,
     },
     /// A limit was met.
-    Limit { which: Limit },
+    Limit {
+        which: Limit,
+    },
     /// The link failed.
     LinkFault,
     /// The bytes read of a direction of a connection aren't those written: the first that differs, what was written there,

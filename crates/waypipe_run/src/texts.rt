@@ -3,7 +3,9 @@ ghost use Rattle.std.specs.Prelude.{◌≡◌, string_bytes, IfOk};
 ghost use Rattle.waypipe_run.specs.Texts.{usage_text, read_failed_text, drained_text, script_text, peer_text, limit_text, frame_text, rest_text};
 
 use crate::causes::{Limit, PeerCause, ScriptCause};
-use crate::names::{frame_detail, frame_name, limit_name, peer_name, reader_name, script_name, side_name};
+use crate::names::{
+    frame_detail, frame_name, limit_name, peer_name, reader_name, script_name, side_name,
+};
 use crate::status::Reader;
 use std::alloc::{AllocError, Global};
 use transfer_frames::FrameCause;
@@ -44,7 +46,12 @@ pub fn script_text(alloc: Global, line: u32, cause: ScriptCause) -> Result<Strin
 
 /// The line for a message that is refused.
 #[tactic(auto, unfolding(crate::specs::Texts::peer_text))]
-pub fn peer_text(alloc: Global, side: Side, index: u64, cause: PeerCause) -> Result<String, AllocError>
+pub fn peer_text(
+    alloc: Global,
+    side: Side,
+    index: u64,
+    cause: PeerCause,
+) -> Result<String, AllocError>
     ensures { IfOk result (λ text. string_bytes text ≡ peer_text side index cause) }
 {
     let peer = side_name(side);

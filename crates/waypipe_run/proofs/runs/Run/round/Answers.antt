@@ -7,5 +7,5 @@ connect_made-requires g c = (c.in-Ok.ensures (g.L.LinkStore.line c.args.line.now
 
 pub returns : goal.returns
 returns g c =
-  let took = c.in-Ok.ensures (g.L.LinkStore.line c.args.line.now) c.requires.carried in
-  up_rounds c.up.result c.args.bytes.now c.args.self.now c.take.new.self c.connect_made.new.self c.up.new.self (g.L.LinkStore.line c.up.new.line) c.args.most took.0 took.2 c.in-Ok-connect_made.ensures.state c.up.ensures
+    let took = c.in-Ok.ensures (g.L.LinkStore.line c.args.line.now) c.requires.carried in
+    up_rounds c.up.result c.args.bytes.now c.args.self.now c.take.new.self c.connect_made.new.self c.up.new.self (g.L.LinkStore.line c.up.new.line) c.args.most took.0 took.2 c.in-Ok-connect_made.ensures.state c.up.ensures
