@@ -102,6 +102,7 @@ pub record IsUsage (words : List (String Global)) (old new : InputState) (before
 pub record IsReadFault (words : List (String Global)) (old new : InputState) (before after : ℕ → Line) (text : List ℕ) : Type 0 where
   pub command : IsCommand words
   pub rose : Rose old.faults new.faults
+  pub one_more : TookNoMore old.left new.left
   pub untouched : Same before after
   pub printed : text ≡ read_failed_text
 
@@ -110,6 +111,7 @@ pub record IsLimit (which : Limit) (words : List (String Global)) (old new : Inp
   pub command : IsCommand words
   pub input : which ≡ Input
   pub above : IfTold old.left (λ left. MOST_INPUT < length left)
+  pub one_more : TookNoMore old.left new.left
   pub no_fault : new.faults ≡ old.faults
   pub untouched : Same before after
   pub printed : text ≡ limit_text which

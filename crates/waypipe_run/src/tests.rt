@@ -1,4 +1,6 @@
 //! The call as the program makes it, over sources, sinks and a link in memory.
+mod listings;
+
 use crate::causes::{Limit, PeerCause, ScriptCause};
 use crate::plain::run_plain;
 use crate::status::Status;
