@@ -1,8 +1,7 @@
 -- What a longer history says of the words: a write behind the first k changes nothing that stood after the first k.
 use Rattle.std.proofs.Common.{◌≡◌, ◌≢◌, ℕ, ◌+◌, ◌≤◌, List, [], ◌∷◌, ◌++◌, length, sym, refl, ap, ◌∙◌, arith, eq-eqb, ne_eqb, length-append, take_all}
-use Rattle.std.specs.Prelude.{All, if◌then◌else◌, ◌==◌}
+use Rattle.std.specs.Prelude.{if◌then◌else◌, ◌==◌}
 use Rattle.std.proofs.lemmas.List.{take-append-le}
-use Rattle.std.proofs.lemmas.List.Elements.{All-head, All-tail}
 use Rattle.pool_words.specs.declared.views.Write.{Write}
 use Rattle.pool_words.specs.declared.views.Load.{Load}
 use Rattle.pool_words.specs.declared.views.Sight.{Sight}

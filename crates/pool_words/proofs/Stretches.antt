@@ -5,7 +5,7 @@ use Rattle.std.specs.Prelude.{All, if◌then◌else◌, ◌==◌}
 use Rattle.std.proofs.lemmas.List.{take-append-drop, take-take, drop-take}
 use Rattle.std.proofs.lemmas.List.Elements.{All-head, All-tail, All-take}
 use Rattle.pool_words.specs.declared.views.Write.{Write}
-use Rattle.pool_words.specs.History.{held_after, at, Stood, HasStood, Untouched}
+use Rattle.pool_words.specs.History.{held_after, Untouched}
 use Rattle.pool_words.specs.Laws.{LastWriteStands, UnnamedIsZero, UntouchedStays, UntouchedIsCommitted}
 
 held_after-append : (xs ys : List Write) (i v : ℕ) → held_after (xs ++ ys) i v ≡ held_after ys i (held_after xs i v)

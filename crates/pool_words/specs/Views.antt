@@ -11,6 +11,10 @@ use Rattle.pool_words.specs.declared.views.View.TheVariants.{Writing, Seeing, Sh
 abbrev pub PoolId : Type 0
 PoolId = TableId
 
+-- the name of no pool
+abbrev pub no_pool : PoolId
+no_pool = record { words = 0; slots = 0; views_name = 0; atom = 0; block = 0; offset = 0; slot_names = [] }
+
 -- a pen: the writes made through it, in order, and the loads that it settled
 pub record PenState : Type 0 where
   pub pool : PoolId

@@ -109,18 +109,3 @@ fn a_split_eye_on_two_threads(rt: HostRuntime) -> Result<(), Fail> {
     println!(rt; "a word was seen changed during a copy: {was_changed}")?;
     Ok(())
 }
-
-#[test]
-fn threads_share_by_reference(rt: HostRuntime) -> Result<(), Fail> {
-    let mut pen = new_pool(rt.alloc(), 9, 3)?;
-    let receipt = pen.note()?.finish();
-    let eye = pen.note()?;
-    let (here, there) = join(
-        &rt,
-        || (pen.words(), eye.low(), receipt.high()),
-        || (pen.words(), eye.low(), receipt.high()),
-    );
-    assert_eq!(rt; here, (3, 0, 0));
-    assert_eq!(rt; there, (3, 0, 0));
-    Ok(())
-}
