@@ -10,7 +10,7 @@ use Rattle.wp_outside.specs.Pieces.{IfTold, held_with}
 use Rattle.wp_outside.specs.declared.kinds.Side.{Side}
 use Rattle.wp_outside.specs.declared.kinds.Side.TheVariants.{Near}
 use Rattle.waypipe_run.specs.Grammar.{Act}
-use Rattle.waypipe_run.specs.Moving.{Took, MOST_INPUT, WroteFront}
+use Rattle.waypipe_run.specs.Moving.{Took, TookNoMore, MOST_INPUT, WroteFront}
 use Rattle.waypipe_run.specs.Outcomes.{WentThrough, StoppedAt}
 use Rattle.waypipe_run.specs.Pieces.{lines}
 use Rattle.waypipe_run.specs.Reading.{acts}
@@ -94,6 +94,7 @@ pub record IsUsage (words : List (String Global)) (old new : InputState) (before
 pub record IsReadFault (words : List (String Global)) (old new : InputState) (before after : ℕ → Line) (text : List ℕ) : Type 0 where
   pub command : IsReplay words
   pub rose : Rose old.faults new.faults
+  pub one_more : TookNoMore old.left new.left
   pub untouched : Same before after
   pub printed : text ≡ read_failed_text
 
@@ -102,6 +103,7 @@ pub record IsLimit (which : Limit) (words : List (String Global)) (old new : Inp
   pub command : IsReplay words
   pub input : which ≡ Input
   pub above : IfTold old.left (λ left. MOST_INPUT < length left)
+  pub one_more : TookNoMore old.left new.left
   pub no_fault : new.faults ≡ old.faults
   pub untouched : Same before after
   pub printed : text ≡ limit_text which
