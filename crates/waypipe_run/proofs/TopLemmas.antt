@@ -1,28 +1,23 @@
 -- The status follows from what the program's call owes.
-use Rattle.std.proofs.Common.{◌≡◌, ℕ, ◌+◌, ◌<◌, ◌≤◌, Bool, true, false, cond, ltb, List, [], ◌∷◌, ◌++◌, Option, Some, None, Result, Ok, Err, ◌⊎◌, inl, inr, ⊎_elim, length, refl, ap, ◌∙◌, sym, subst, arith, rules, tests, String}
+use Rattle.std.proofs.Common.{◌≡◌, ℕ, ◌<◌, ◌≤◌, true, false, cond, ltb, List, [], ◌++◌, Option, Some, None, ◌⊎◌, inl, inr, ⊎_elim, length, refl, ap, ◌∙◌, sym, subst, rules, tests, String}
 use Rattle.std.specs.declared.alloc.Global.{Global}
 use Rattle.std.proofs.lemmas.List.{append-nil}
-use Rattle.wl_wire.specs.Wire.{cut, cut_fault}
-use Rattle.wl_wire.specs.declared.faults.WireFault.{WireFault}
+use Rattle.wl_wire.specs.Wire.{cut}
 use Rattle.wl_wire.specs.declared.faults.ObjectFault.TheVariants.{Wire}
 use Rattle.wp_outside.specs.Counts.{Rose}
 use Rattle.wp_outside.specs.Lines.{Line}
 use Rattle.wp_outside.specs.Pieces.{IfTold}
-use Rattle.wp_outside.specs.declared.kinds.Side.{Side}
 use Rattle.wp_outside.specs.declared.kinds.Side.TheVariants.{Near}
-use Rattle.waypipe_run.specs.Grammar.{Act}
 use Rattle.waypipe_run.specs.Moving.{Took, MOST_INPUT}
-use Rattle.waypipe_run.specs.Outcomes.{put_bytes, WentThrough, StoppedAt}
+use Rattle.waypipe_run.specs.Outcomes.{put_bytes}
 use Rattle.waypipe_run.specs.Pieces.{lines}
 use Rattle.waypipe_run.specs.Reading.{acts}
-use Rattle.waypipe_run.specs.Top.{InputState, OutputState, ReadWhole, IsAnswer, IsUsage, IsReadFault, IsLimit, Tells, TellsText, Printed, PartlyPrinted, Outcome, Ran, Stopped, IsScript}
-use Rattle.waypipe_run.specs.TopLaws.{status_of_cut, status_of_script, status_of_input, OrHindered, OtherWords, StatusOfInput, GoesThrough}
+use Rattle.waypipe_run.specs.Top.{InputState, OutputState, IsAnswer, IsLimit, Tells, TellsText, Printed, Outcome}
+use Rattle.waypipe_run.specs.TopLaws.{status_of_cut, status_of_script, status_of_input, OtherWords, StatusOfInput, GoesThrough}
 use Rattle.waypipe_run.specs.Words.{IsReplay}
 use Rattle.waypipe_run.specs.declared.causes.Limit.{Limit}
 use Rattle.waypipe_run.specs.declared.causes.Limit.TheVariants.{Input}
-use Rattle.waypipe_run.specs.declared.causes.PeerCause.{PeerCause}
 use Rattle.waypipe_run.specs.declared.causes.PeerCause.TheVariants.{Object}
-use Rattle.waypipe_run.specs.declared.causes.ScriptCause.{ScriptCause}
 use Rattle.waypipe_run.specs.declared.status.Status.{Status}
 use Rattle.waypipe_run.specs.declared.status.Status.TheVariants as status
 
