@@ -1,8 +1,7 @@
 -- A replay on its way: what went over the link, stated for whatever stands outside, and what each step changes. The
 -- messages are those of the Wayland wire format; the link is this project's own.
-use Rattle.std.specs.Prelude.{◌≡◌, ◌≢◌, ℕ, ◌+◌, ◌<◌, ◌≤◌, Bool, true, false, ◌||◌, if◌then◌else◌, List, [], ◌∷◌, ◌++◌, Option, Some, None, Result, Ok, Err, length, min, take, ◌⊎◌}
-use Rattle.wl_wire.specs.declared.faults.WireFault.{WireFault}
-use Rattle.wp_outside.specs.Lines.{Line, Lane, fresh_lane, fresh_line}
+use Rattle.std.specs.Prelude.{◌≡◌, ◌≢◌, ℕ, ◌+◌, ◌≤◌, Bool, true, false, ◌||◌, if◌then◌else◌, List, [], ◌∷◌, ◌++◌, Result, Ok, Err, length, min, take, ◌⊎◌}
+use Rattle.wp_outside.specs.Lines.{Line, fresh_lane, fresh_line}
 use Rattle.waypipe_run.specs.Rows.{BeginsRow}
 use Rattle.waypipe_run.specs.Sides.{Waits, Refuses, Heard}
 use Rattle.waypipe_run.specs.NearSteps.{Grew}
