@@ -105,10 +105,19 @@ abbrev pub opens_any : List Step → Bool
 opens_any [] = false
 opens_any (s ∷ steps) = opens s || opens_any steps
 
+-- what a step does alone
+abbrev pub DidStep : Step → Run → Run → Type 0
+DidStep (step.Hex count) old new = new ≡ record old { put = old.put + count }
+DidStep (step.Take count) old new = TookBytes old new count
+DidStep step.Connect old new = new ≡ record old { connected = true }
+DidStep (step.Up count) old new = PushedBytes old new count
+DidStep (step.Drain count) old new = new ≡ old
+
 -- one step of a script
 pub record Stepped (old new : Run) (s : Step) : Type 0 where
   pub put : new.put ≡ old.put + put_by s
   pub connected : new.connected ≡ (old.connected || opens s)
+  pub did : DidStep s old new
 
 -- one round: bytes are taken, the connection is opened where a frame was made, and bytes of frames go up
 pub record Rounded (old new : Run) (most : ℕ) : Type 0 where

@@ -203,6 +203,7 @@ fn end_report(alloc: Global, report: Vec<u8>, sent: u64, end: End) -> Result<Rep
             sent,
             PeerCause::Object(ObjectFault::Wire(fault)),
         ),
+        // No frame is refused, as the clause of `replay` says.
         End::Frame(cause) => Ok(Reply {
             status: Status::Frame {
                 reader: Reader::Far,
