@@ -1,10 +1,9 @@
 -- What stands at the front of bytes, and what the cut into messages of the Wayland wire format makes of it.
-use Rattle.std.proofs.Common.{◌≡◌, ℕ, ◌+◌, ◌<◌, ◌≤◌, List, [], ◌∷◌, ◌++◌, Option, Some, None, Result, Ok, Err, length, take, drop, refl, ap, ◌∙◌, sym, subst, append_assoc, arith, length-append}
-use Rattle.std.proofs.lemmas.List.{append-nil}
+use Rattle.std.proofs.Common.{◌≡◌, ℕ, ◌≤◌, List, [], ◌∷◌, ◌++◌, Option, None, Ok, Err, length, refl, ap, ◌∙◌, sym, append_assoc, arith, length-append}
 use Rattle.std.proofs.lemmas.List.Elements.{recursion_from_All}
 use Rattle.wl_wire.specs.declared.faults.WireFault.{WireFault}
 use Rattle.wl_wire.specs.Wire.{joined, first, IsMessage, cut, cut_rest, cut_fault, fault_in}
-use Rattle.wl_wire.proofs.CuttingLaws.{cut-message, cut-nothing, cut-joins, cut-goes_on, cut-fault-stays}
+use Rattle.wl_wire.proofs.CuttingLaws.{cut-message, cut-nothing, cut-joins}
 use Rattle.wl_wire.proofs.FrontLemmas.{stops-waits, stops-fault}
 use Rattle.waypipe_run.specs.Rows.{frame_of, frames_of, AreMessages}
 

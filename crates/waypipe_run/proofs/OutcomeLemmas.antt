@@ -1,24 +1,22 @@
 -- The outcome of a replay follows from the record that each step kept.
-use Rattle.std.proofs.Common.{◌≡◌, ◌≢◌, ℕ, ◌+◌, ◌<◌, ◌≤◌, Bool, true, false, ◌||◌, cond, List, [], ◌∷◌, ◌++◌, Option, Some, None, Result, Ok, Err, length, take, drop, refl, ap, ◌∙◌, sym, subst, arith, length-append, length-drop, append_assoc}
+use Rattle.std.proofs.Common.{◌≡◌, ℕ, ◌<◌, ◌≤◌, Bool, true, false, ◌||◌, cond, List, [], ◌∷◌, ◌++◌, Option, Some, None, Result, Ok, Err, length, take, drop, refl, ap, ◌∙◌, sym, subst, arith, length-append, length-drop}
 use Rattle.std.proofs.lemmas.List.{take_all, append-nil, take-append-drop}
-use Rattle.wl_wire.specs.Wire.{cut, cut_rest, cut_fault, IsMessage}
+use Rattle.wl_wire.specs.Wire.{cut, cut_fault}
 use Rattle.wl_wire.specs.declared.faults.WireFault.{WireFault}
 use Rattle.wl_wire.proofs.CuttingLaws.{cut-fault-stays}
-use Rattle.wp_outside.specs.Lines.{Line, IsFront, fresh_line, fresh_lane}
+use Rattle.wp_outside.specs.Lines.{Line, fresh_lane}
 use Rattle.transfer_frames.specs.Front.{front}
-use Rattle.transfer_frames.specs.Grammar.{spelling}
 use Rattle.transfer_frames.specs.declared.cause.FrameCause.{FrameCause}
 use Rattle.transfer_frames.specs.declared.frame.Frame.{Frame}
 use Rattle.transfer_frames.specs.declared.frame.Frame.TheVariants.{Protocol}
 use Rattle.transfer_frames.proofs.FrontLaws.{front-spelled}
-use Rattle.waypipe_run.specs.Grammar.{Act}
 use Rattle.waypipe_run.specs.Outcomes.{put_bytes, connects, is_some_message, GoesUp, DecodedFrom, WentThrough, StoppedAt}
 use Rattle.waypipe_run.specs.Reading.{acts_of, put_by, put_by_all}
 use Rattle.waypipe_run.specs.Replays.{Played, EndsBy, end_of}
 use Rattle.waypipe_run.specs.Rows.{frame_of, frames_of, AreMessages}
-use Rattle.waypipe_run.specs.Runs.{Carried, Ready, GoesOn, quiet_line, open_line, sent_bytes, has_some, opens, opens_any}
+use Rattle.waypipe_run.specs.Runs.{Carried, Ready, GoesOn, quiet_line, sent_bytes, has_some, opens, opens_any}
 use Rattle.waypipe_run.specs.Scripts.{acts_in, IsCounted}
-use Rattle.waypipe_run.specs.Sides.{Made, Waits, Refuses, Heard}
+use Rattle.waypipe_run.specs.Sides.{Refuses}
 use Rattle.waypipe_run.specs.declared.halts.Halt.{Halt}
 use Rattle.waypipe_run.specs.declared.halts.Halt.TheVariants as halts
 use Rattle.waypipe_run.specs.declared.replays.End.{End}
@@ -28,7 +26,7 @@ use Rattle.waypipe_run.specs.declared.script.Script.{Script}
 use Rattle.waypipe_run.specs.declared.steps.Step.{Step}
 use Rattle.waypipe_run.specs.declared.steps.Step.TheVariants as step
 use Rattle.waypipe_run.proofs.CutLemmas.{cut_whole}
-use Rattle.waypipe_run.proofs.RowLemmas.{message_frame, spelling_long, behind_given, Behind}
+use Rattle.waypipe_run.proofs.RowLemmas.{message_frame, spelling_long, behind_given}
 
 -- ---- the script
 

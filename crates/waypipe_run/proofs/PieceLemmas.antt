@@ -1,5 +1,5 @@
 -- The lines of a text, seen from its first line feed.
-use Rattle.std.proofs.Common.{◌≡◌, ℕ, ◌+◌, ◌<◌, ◌≤◌, true, false, eqb, cond, List, [], ◌∷◌, Option, Some, None, length, unwrap_or, refl, ap, ◌∙◌, subst, arith}
+use Rattle.std.proofs.Common.{◌≡◌, ℕ, ◌<◌, ◌≤◌, true, false, eqb, cond, List, [], ◌∷◌, Option, Some, None, length, unwrap_or, refl, ap, ◌∙◌, subst, arith}
 use Rattle.waypipe_run.specs.Pieces.{front, behind, lines, onto_first}
 
 -- a text that isn't empty is its first line, and then the lines of what stands behind the first line feed

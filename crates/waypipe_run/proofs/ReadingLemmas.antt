@@ -1,7 +1,7 @@
 -- One more step behind those that were read.
-use Rattle.std.proofs.Common.{◌≡◌, ℕ, ◌+◌, ◌≤◌, List, [], ◌∷◌, ◌++◌, Result, Ok, Err, Option, Some, None, length, take, drop, refl, ap, ◌∙◌, sym, subst, append_assoc, arith, length-append, length-drop}
-use Rattle.std.proofs.lemmas.List.{take-append-le, drop-append-le, take_all}
-use Rattle.waypipe_run.specs.Grammar.{Act, Put, Take, Connect, Up, Drain, meaning}
+use Rattle.std.proofs.Common.{◌≡◌, ℕ, ◌+◌, ◌≤◌, List, [], ◌∷◌, ◌++◌, Result, Ok, Err, Option, Some, length, drop, refl, ap, ◌∙◌, sym, append_assoc, arith, length-drop}
+use Rattle.std.proofs.lemmas.List.{take-append-le, drop-append-le}
+use Rattle.waypipe_run.specs.Grammar.{Act, Put, meaning}
 use Rattle.waypipe_run.specs.Reading.{act_of, acts, acts_of, put_by, put_by_all, behind_acts, and_then}
 use Rattle.waypipe_run.specs.Scripts.{acts_in, IsAdded, AddsLine, ReadsScript}
 use Rattle.waypipe_run.specs.declared.script.ScriptFault.{ScriptFault}

@@ -1,5 +1,5 @@
 -- The start of a replay, and its rounds.
-use Rattle.std.proofs.Common.{◌≡◌, ◌≢◌, ℕ, ◌+◌, ◌-◌, ◌<◌, ◌≤◌, Bool, true, false, ◌||◌, cond, List, [], ◌∷◌, ◌++◌, Option, Some, None, Result, Ok, Err, ◌⊎◌, inl, inr, ⊎_elim, length, min, take, drop, refl, ap, ◌∙◌, sym, subst, arith, length-append}
+use Rattle.std.proofs.Common.{◌≡◌, ℕ, ◌+◌, ◌-◌, ◌<◌, Bool, true, false, ◌||◌, cond, List, [], ◌∷◌, ◌++◌, None, Result, Ok, Err, ◌⊎◌, inl, inr, ⊎_elim, length, min, take, refl, ap, ◌∙◌, sym, subst, arith}
 use Rattle.wl_wire.specs.Wire.{first, cut, cut_rest}
 use Rattle.wl_wire.proofs.Cutting.{stops-nil}
 use Rattle.wl_wire.proofs.CuttingLaws.{cut-nothing}
@@ -7,9 +7,8 @@ use Rattle.wl_wire.proofs.FrontLemmas.{first-short}
 use Rattle.wp_outside.specs.Lines.{Line, fresh_line}
 use Rattle.transfer_frames.proofs.FrontLaws.{front-short}
 use Rattle.waypipe_run.specs.FarSteps.{OrMemory}
-use Rattle.waypipe_run.specs.NearSteps.{Grew}
 use Rattle.waypipe_run.specs.Rows.{frames_of}
-use Rattle.waypipe_run.specs.Runs.{Carried, Ready, GoesOn, TookBytes, PushedBytes, Rounded, OpensIfMade, Unused, has_some}
+use Rattle.waypipe_run.specs.Runs.{Carried, Ready, GoesOn, TookBytes, PushedBytes, Rounded, OpensIfMade, has_some}
 use Rattle.waypipe_run.specs.Sides.{Waits}
 use Rattle.waypipe_run.specs.declared.far.Far.{Far}
 use Rattle.waypipe_run.specs.declared.halts.Halt.{Halt}

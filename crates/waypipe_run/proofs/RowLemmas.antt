@@ -1,6 +1,6 @@
 -- A row of frames, each with one message of the Wayland wire format, is read frame by frame.
-use Rattle.std.proofs.Common.{◌≡◌, ◌≢◌, ℕ, ◌+◌, ◌<◌, ◌≤◌, List, [], ◌∷◌, ◌++◌, Option, Some, None, Result, Ok, Err, length, take, drop, refl, ap, ◌∙◌, sym, subst, append_assoc, arith, length-append, length-drop, ⊎_elim}
-use Rattle.std.proofs.lemmas.List.{append-nil, take-append-le, take-append-drop, take_at, drop_at}
+use Rattle.std.proofs.Common.{◌≡◌, ◌≢◌, ℕ, ◌<◌, ◌≤◌, List, [], ◌∷◌, ◌++◌, Option, Some, None, Ok, Err, length, take, drop, refl, ap, ◌∙◌, sym, subst, append_assoc, arith, length-append, length-drop, ⊎_elim}
+use Rattle.std.proofs.lemmas.List.{append-nil, take-append-le, take-append-drop, take_at}
 use Rattle.std.proofs.lemmas.Bool.{cases_lt}
 use Rattle.wl_wire.specs.Wire.{IsMessage, cut, cut_rest}
 use Rattle.wl_wire.proofs.Cutting.{stops-nil}
@@ -10,7 +10,6 @@ use Rattle.transfer_frames.specs.declared.frame.Frame.TheVariants.{Protocol}
 use Rattle.transfer_frames.specs.declared.cause.FrameCause.{FrameCause}
 use Rattle.transfer_frames.specs.Grammar.{IsFrame, spelling}
 use Rattle.transfer_frames.specs.Front.{front}
-use Rattle.transfer_frames.specs.Laws.{SpellingLength, MessageFits}
 use Rattle.transfer_frames.proofs.FrontLaws.{front-short, front-spelled, front-proper, none_begins}
 use Rattle.transfer_frames.proofs.FrameLaws.{length-spelling}
 use Rattle.waypipe_run.specs.FarSteps.{HasOne, Gave, GaveFrames, OrMemory, messages_in}

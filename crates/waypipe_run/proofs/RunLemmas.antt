@@ -1,13 +1,13 @@
 -- How the record of a replay is kept by each step: what goes over the link is a front of one row of frames.
-use Rattle.std.proofs.Common.{◌≡◌, ◌≢◌, ℕ, ◌+◌, ◌-◌, ◌<◌, ◌≤◌, Bool, true, false, List, [], ◌∷◌, ◌++◌, Option, Some, None, Result, Ok, Err, length, min, take, drop, refl, ap, ◌∙◌, sym, subst, append_assoc, arith, length-append, length-take, length-drop}
+use Rattle.std.proofs.Common.{◌≡◌, ℕ, ◌+◌, ◌-◌, ◌≤◌, Bool, true, false, List, [], ◌∷◌, ◌++◌, Result, Ok, Err, length, min, take, drop, refl, ap, ◌∙◌, sym, subst, append_assoc, arith, length-append, length-drop}
 use Rattle.std.proofs.Math.Seq.{take-add}
 use Rattle.std.proofs.lemmas.List.{append-nil, take-append-le, take-append-drop}
 use Rattle.wl_wire.specs.Wire.{cut}
-use Rattle.wp_outside.specs.Lines.{Line, Became, pushed_onto, pulled_from, fresh_line}
+use Rattle.wp_outside.specs.Lines.{Line, Became, pushed_onto, pulled_from}
 use Rattle.wp_outside.specs.declared.kinds.Direction.TheVariants.{Up}
 use Rattle.waypipe_run.specs.NearSteps.{Grew, Takes}
 use Rattle.waypipe_run.specs.FarSteps.{Hears}
-use Rattle.waypipe_run.specs.Rows.{frames_of, AreMessages, BeginsRow}
+use Rattle.waypipe_run.specs.Rows.{frames_of, BeginsRow}
 use Rattle.waypipe_run.specs.Runs.{open_line, quiet_line, sent_bytes, NoOther, Carried, Ready, GoesOn, TookBytes, Pulling}
 use Rattle.waypipe_run.specs.Sides.{Made, Heard}
 use Rattle.waypipe_run.specs.declared.far.Far.{Far}
@@ -16,7 +16,7 @@ use Rattle.waypipe_run.specs.declared.halts.Halt.TheVariants as halts
 use Rattle.waypipe_run.specs.declared.near.Near.{Near}
 use Rattle.waypipe_run.specs.declared.runs.Run.{Run}
 use Rattle.waypipe_run.proofs.CutLemmas.{cut_whole}
-use Rattle.waypipe_run.proofs.RowLemmas.{Behind, behind_given}
+use Rattle.waypipe_run.proofs.RowLemmas.{behind_given}
 
 -- what was pushed behind the bytes before
 pub sent_more : (made piece : List ℕ) (pushed count : ℕ) → piece ≡ take count (drop pushed made) → take pushed made ++ piece ≡ take (pushed + count) made

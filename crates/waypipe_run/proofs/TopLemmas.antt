@@ -9,17 +9,14 @@ use Rattle.transfer_frames.specs.declared.cause.FrameCause.{FrameCause}
 use Rattle.frame_stream.specs.Listing.{Lists}
 use Rattle.frame_stream.proofs.ListingLaws.{listed_once}
 use Rattle.std.proofs.lemmas.List.{append-nil}
-use Rattle.wl_wire.specs.Wire.{cut, cut_fault}
-use Rattle.wl_wire.specs.declared.faults.WireFault.{WireFault}
+use Rattle.wl_wire.specs.Wire.{cut}
 use Rattle.wl_wire.specs.declared.faults.ObjectFault.TheVariants.{Wire}
 use Rattle.wp_outside.specs.Counts.{Rose}
 use Rattle.wp_outside.specs.Lines.{Line}
 use Rattle.wp_outside.specs.Pieces.{IfTold}
-use Rattle.wp_outside.specs.declared.kinds.Side.{Side}
 use Rattle.wp_outside.specs.declared.kinds.Side.TheVariants.{Near}
-use Rattle.waypipe_run.specs.Grammar.{Act}
 use Rattle.waypipe_run.specs.Moving.{Took, MOST_INPUT}
-use Rattle.waypipe_run.specs.Outcomes.{put_bytes, WentThrough, StoppedAt}
+use Rattle.waypipe_run.specs.Outcomes.{put_bytes}
 use Rattle.waypipe_run.specs.Pieces.{lines}
 use Rattle.waypipe_run.specs.Reading.{acts}
 use Rattle.waypipe_run.specs.Top.{InputState, OutputState, ReadWhole, IsAnswer, IsUsage, IsReadFault, IsLimit, Tells, TellsText, Printed, PartlyPrinted, Outcome, Ran, Stopped, IsScript, IsListed, TellsStream}
@@ -27,7 +24,6 @@ use Rattle.waypipe_run.specs.TopLaws.{status_of_cut, status_of_script, status_of
 use Rattle.waypipe_run.specs.Words.{IsReplay, IsFrames, IsCommand}
 use Rattle.waypipe_run.specs.declared.causes.Limit.{Limit}
 use Rattle.waypipe_run.specs.declared.causes.Limit.TheVariants.{Input}
-use Rattle.waypipe_run.specs.declared.causes.PeerCause.{PeerCause}
 use Rattle.waypipe_run.specs.declared.causes.PeerCause.TheVariants.{Object}
 use Rattle.waypipe_run.specs.declared.causes.ScriptCause.{ScriptCause}
 use Rattle.waypipe_run.specs.declared.status.Reader.{Reader}

@@ -1,5 +1,5 @@
 -- Numbers as scripts write them: in decimal, without leading zeros and without a sign.
-use Rattle.std.specs.Prelude.{ℕ, ◌+◌, ◌-◌, ◌*◌, Bool, false, true, ◌&&◌, ◌||◌, List, [], ◌∷◌, if◌then◌else◌, nat_le, ◌==◌, not}
+use Rattle.std.specs.Prelude.{ℕ, ◌+◌, ◌-◌, ◌*◌, Bool, false, true, ◌&&◌, List, [], ◌∷◌, nat_le, ◌==◌, not}
 
 abbrev pub is_decimal_digit : ℕ → Bool
 is_decimal_digit c = nat_le 48 c && nat_le c 57

@@ -1,7 +1,7 @@
 -- What the far side's calls change: it reads frames and gives the messages of the Wayland wire format in them to the
 -- compositor.
 use Rattle.std.specs.Prelude.{◌≡◌, ℕ, List, ◌++◌, Option, Some, None, Result, Ok, Err}
-use Rattle.wl_wire.specs.Wire.{IsMessage, cut}
+use Rattle.wl_wire.specs.Wire.{IsMessage}
 use Rattle.transfer_frames.specs.Front.{front}
 use Rattle.transfer_frames.specs.declared.frame.Frame.{Frame}
 use Rattle.transfer_frames.specs.declared.frame.Frame.TheVariants as frames

@@ -1,7 +1,6 @@
 -- Bytes written as lower-case hexadecimal digits, two to a byte, the high one first: the form in which scripts give
 -- the bytes of Wayland messages and reports show them.
-use Rattle.std.specs.Prelude.{ℕ, ◌+◌, ◌-◌, ◌*◌, ◌/◌, ◌%◌, Bool, ◌&&◌, ◌||◌, List, [], ◌∷◌, if◌then◌else◌, nat_lt, nat_le, ◌==◌, length, flat_map}
-use Rattle.std.specs.List.{list_all}
+use Rattle.std.specs.Prelude.{ℕ, ◌+◌, ◌-◌, ◌*◌, ◌/◌, ◌%◌, Bool, ◌&&◌, ◌||◌, List, [], ◌∷◌, if◌then◌else◌, nat_lt, nat_le}
 
 -- the digits 0 to 9 and a to f
 abbrev pub is_digit : ℕ → Bool

@@ -1,6 +1,6 @@
 -- What the near side's calls change: it takes bytes of the application and makes a frame of each whole message of the
 -- Wayland wire format.
-use Rattle.std.specs.Prelude.{◌≡◌, ℕ, ◌+◌, ◌≤◌, List, ◌++◌, Option, Some, None, Result, Ok, Err, length, min}
+use Rattle.std.specs.Prelude.{◌≡◌, ℕ, ◌+◌, ◌≤◌, List, ◌++◌, Some, None, Result, Ok, Err, length}
 use Rattle.wl_wire.specs.Wire.{cut, cut_rest, cut_fault}
 use Rattle.waypipe_run.specs.Rows.{frame_of, frames_of}
 use Rattle.waypipe_run.specs.Sides.{Waits, Refuses}

@@ -1,6 +1,6 @@
 -- What a replay comes to: the sentences that hold of it at its end. The messages are those of the Wayland wire format,
 -- cut from all bytes that the application put on its wire.
-use Rattle.std.specs.Prelude.{◌≡◌, ◌≢◌, ℕ, ◌+◌, ◌≤◌, Bool, true, false, ◌||◌, if◌then◌else◌, List, [], ◌∷◌, ◌++◌, Option, Some, None, Result, Ok, Err, length}
+use Rattle.std.specs.Prelude.{◌≡◌, ◌≢◌, ℕ, Bool, true, false, ◌||◌, if◌then◌else◌, List, [], ◌∷◌, ◌++◌, Some, None, Ok, length}
 use Rattle.wl_wire.specs.declared.faults.WireFault.{WireFault}
 use Rattle.wl_wire.specs.Wire.{cut, cut_fault}
 use Rattle.wp_outside.specs.Lines.{Line, IsFront, fresh_line, fresh_lane}

@@ -1,5 +1,5 @@
 -- A text cut at a separator: the lines of a script at the line feed, the fields of a line at the space.
-use Rattle.std.specs.Prelude.{ℕ, Bool, List, [], ◌∷◌, Option, Some, None, if◌then◌else◌, ◌==◌}
+use Rattle.std.specs.Prelude.{ℕ, List, [], ◌∷◌, Option, Some, None, if◌then◌else◌, ◌==◌}
 
 -- what stands before the first separator
 abbrev pub front : ℕ → List ℕ → List ℕ

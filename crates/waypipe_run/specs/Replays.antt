@@ -1,5 +1,5 @@
 -- What a replay answers, and how it stands for its outcome.
-use Rattle.std.specs.Prelude.{◌≡◌, ℕ, ◌+◌, Bool, false, ◌||◌, if◌then◌else◌, List, Option, Some, None, Result, Ok, Err, ◌++◌, length}
+use Rattle.std.specs.Prelude.{◌≡◌, ℕ, ◌||◌, List, Option, Some, None, Result, Ok, Err, ◌++◌, length}
 use Rattle.wl_wire.specs.declared.faults.ObjectFault.TheVariants.{Wire}
 use Rattle.wp_outside.specs.Lines.{Line}
 use Rattle.wp_outside.specs.declared.kinds.Side.TheVariants.{Near}
@@ -9,7 +9,6 @@ use Rattle.waypipe_run.specs.declared.status.Status.{Status}
 use Rattle.waypipe_run.specs.declared.status.Status.TheVariants as status
 use Rattle.waypipe_run.specs.Grammar.{Act}
 use Rattle.waypipe_run.specs.Outcomes.{WentThrough, StoppedAt}
-use Rattle.waypipe_run.specs.Reading.{put_by_all}
 use Rattle.waypipe_run.specs.Runs.{has_some, opens_any}
 use Rattle.waypipe_run.specs.declared.halts.Halt.{Halt}
 use Rattle.waypipe_run.specs.declared.halts.Halt.TheVariants as halts

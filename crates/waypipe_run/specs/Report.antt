@@ -1,6 +1,6 @@
 -- The report of a replay: how many connections there were, how many messages each peer sent and received, and what
 -- the compositor received, each message of the Wayland protocol as hexadecimal digits.
-use Rattle.std.specs.Prelude.{ℕ, ◌+◌, ◌*◌, List, [], ◌∷◌, ◌++◌, length, codes, decimal}
+use Rattle.std.specs.Prelude.{ℕ, List, [], ◌∷◌, ◌++◌, length, codes, decimal}
 use Rattle.waypipe_run.specs.Hexadecimal.{hexadecimal}
 
 -- what the line of a message begins with

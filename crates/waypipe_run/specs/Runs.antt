@@ -1,8 +1,7 @@
 -- A replay on its way: what went over the link, stated for whatever stands outside, and what each step changes. The
 -- messages are those of the Wayland wire format; the link is this project's own.
-use Rattle.std.specs.Prelude.{◌≡◌, ◌≢◌, ℕ, ◌+◌, ◌<◌, ◌≤◌, Bool, true, false, ◌||◌, if◌then◌else◌, List, [], ◌∷◌, ◌++◌, Option, Some, None, Result, Ok, Err, length, min, take, ◌⊎◌}
-use Rattle.wl_wire.specs.declared.faults.WireFault.{WireFault}
-use Rattle.wp_outside.specs.Lines.{Line, Lane, fresh_lane, fresh_line}
+use Rattle.std.specs.Prelude.{◌≡◌, ◌≢◌, ℕ, ◌+◌, ◌≤◌, Bool, true, false, ◌||◌, if◌then◌else◌, List, [], ◌∷◌, ◌++◌, Result, Ok, Err, length, min, take, ◌⊎◌}
+use Rattle.wp_outside.specs.Lines.{Line, fresh_lane, fresh_line}
 use Rattle.waypipe_run.specs.Rows.{BeginsRow}
 use Rattle.waypipe_run.specs.Sides.{Waits, Refuses, Heard}
 use Rattle.waypipe_run.specs.NearSteps.{Grew}
@@ -106,10 +105,19 @@ abbrev pub opens_any : List Step → Bool
 opens_any [] = false
 opens_any (s ∷ steps) = opens s || opens_any steps
 
+-- what a step does alone
+abbrev pub DidStep : Step → Run → Run → Type 0
+DidStep (step.Hex count) old new = new ≡ record old { put = old.put + count }
+DidStep (step.Take count) old new = TookBytes old new count
+DidStep step.Connect old new = new ≡ record old { connected = true }
+DidStep (step.Up count) old new = PushedBytes old new count
+DidStep (step.Drain count) old new = new ≡ old
+
 -- one step of a script
 pub record Stepped (old new : Run) (s : Step) : Type 0 where
   pub put : new.put ≡ old.put + put_by s
   pub connected : new.connected ≡ (old.connected || opens s)
+  pub did : DidStep s old new
 
 -- one round: bytes are taken, the connection is opened where a frame was made, and bytes of frames go up
 pub record Rounded (old new : Run) (most : ℕ) : Type 0 where

@@ -1,14 +1,12 @@
 -- The two sides of a replay: what the near proxy took of the application's bytes and made of them, and what the far
 -- proxy heard and gave to the compositor. The messages are those of the Wayland wire format.
-use Rattle.std.specs.Prelude.{◌≡◌, ℕ, ◌≤◌, List, ◌++◌, Option, Some, None, Result, Ok, Err, length, take}
+use Rattle.std.specs.Prelude.{◌≡◌, ℕ, ◌≤◌, List, ◌++◌, Some, None, Ok, length, take}
 use Rattle.wl_wire.specs.Wire.{cut, cut_rest, cut_fault}
 use Rattle.wl_wire.specs.declared.faults.WireFault.{WireFault}
 use Rattle.transfer_frames.specs.Front.{front}
 use Rattle.waypipe_run.specs.Rows.{frames_of, AreMessages}
 use Rattle.waypipe_run.specs.declared.near.Near.{Near}
 use Rattle.waypipe_run.specs.declared.far.Far.{Far}
-use Rattle.waypipe_run.specs.declared.halts.Halt.{Halt}
-use Rattle.waypipe_run.specs.declared.halts.Halt.TheVariants as halts
 
 -- the near side made one frame of each message that it took
 pub record Made (bytes : List ℕ) (near : Near) : Type 0 where

@@ -156,10 +156,23 @@ fn answer_script<L: LinkStore>(
     requires counted { IsCounted script }
     ensures { IfOk result (λ answer. TellsReplay answer.status (acts_in script) (L.line line.new) answer.text.items) }
 {
-    match replay(alloc, &script, line) {
+    match replay_of(alloc, script, line) {
         Ok(replayed) => answer_replayed(alloc, replayed),
         Err(error) => Err(error),
     }
+}
+
+/// What a script's replay came to; the script is dropped.
+fn replay_of<L: LinkStore>(
+    alloc: Global,
+    script: Script,
+    line: &mut L,
+) -> Result<Replayed, AllocError>
+    requires nothing { NothingOpened (L.line line.old) }
+    requires counted { IsCounted script }
+    ensures { IfOk result (λ replayed. Ended replayed (acts_in script) (L.line line.new)) }
+{
+    replay(alloc, &script, line)
 }
 
 /// The report of a replay, and its last line.
@@ -190,6 +203,7 @@ fn end_report(alloc: Global, report: Vec<u8>, sent: u64, end: End) -> Result<Rep
             sent,
             PeerCause::Object(ObjectFault::Wire(fault)),
         ),
+        // No frame is refused, as the clause of `replay` says.
         End::Frame(cause) => Ok(Reply {
             status: Status::Frame {
                 reader: Reader::Far,

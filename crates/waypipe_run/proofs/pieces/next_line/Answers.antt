@@ -1,5 +1,5 @@
-use Rattle.std.proofs.Common.{◌≡◌, [], ◌∷◌, List, ℕ, Some, None, option_map, ap, ◌∙◌, sym}
-use Rattle.waypipe_run.specs.Pieces.{front, behind, lines}
+use Rattle.std.proofs.Common.{[], ◌∷◌, option_map, ap, ◌∙◌, sym}
+use Rattle.waypipe_run.specs.Pieces.{lines}
 use Rattle.waypipe_run.proofs.PieceLemmas.{lines_some, lines_none, some_shorter}
 use Rattle.waypipe_run.proofs.pieces.next_line.Goals as goal
 

@@ -1,4 +1,4 @@
-use Rattle.std.proofs.Common.{◌≡◌, ◌+◌, ◌-◌, ◌≤◌, ◌<◌, length}
+use Rattle.std.proofs.Common.{◌≡◌, ◌-◌, ◌≤◌, length}
 use Rattle.waypipe_run.specs.Moving.{Took}
 use Rattle.waypipe_run.proofs.reading.read_pieces.Given as goal
 

@@ -1,4 +1,4 @@
-use Rattle.std.proofs.Common.{◌≡◌, ◌∙◌, sym, subst, ℕ}
+use Rattle.std.proofs.Common.{◌∙◌, sym, subst, ℕ}
 use Rattle.waypipe_run.specs.Replays.{EndsBy}
 use Rattle.waypipe_run.specs.Scripts.{acts_in}
 use Rattle.waypipe_run.proofs.OutcomeLemmas.{ends_by}

@@ -1,4 +1,4 @@
-use Rattle.std.proofs.Common.{◌≡◌, ◌+◌, ◌++◌, ◌<◌, ◌∙◌, length, drop, get_or, ap, sym, arith, append_assoc}
+use Rattle.std.proofs.Common.{◌+◌, ◌++◌, ◌<◌, ◌∙◌, length, drop, ap, sym, arith, append_assoc}
 use Rattle.std.proofs.lemmas.List.{at_drop_more}
 use Rattle.waypipe_run.specs.Report.{got, got_all}
 use Rattle.waypipe_run.proofs.report.push_all.Goals as goal

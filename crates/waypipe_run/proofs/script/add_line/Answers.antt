@@ -1,4 +1,4 @@
-use Rattle.std.proofs.Common.{◌≡◌, ℕ, ◌+◌, [], ◌∷◌, ◌++◌, length, arith, ◌∙◌, sym, ap, length-append}
+use Rattle.std.proofs.Common.{[], ◌∷◌, ◌++◌, length, arith, ◌∙◌, sym, ap, length-append}
 use Rattle.waypipe_run.specs.Reading.{acts_of, put_by_all, behind_acts, and_then}
 use Rattle.waypipe_run.proofs.ReadingLemmas.{pushed, put_by_push}
 use Rattle.waypipe_run.proofs.script.add_line.Goals as goal

@@ -1,7 +1,7 @@
-use Rattle.std.proofs.Common.{◌≡◌, ◌∷◌, ℕ, ◌+◌, length, arith, ◌∙◌, sym, ap}
+use Rattle.std.proofs.Common.{◌+◌, arith, ◌∙◌, sym, ap}
 use Rattle.waypipe_run.specs.Reading.{acts, behind_acts}
 use Rattle.waypipe_run.specs.Scripts.{acts_in}
-use Rattle.waypipe_run.proofs.ReadingLemmas.{added, ended}
+use Rattle.waypipe_run.proofs.ReadingLemmas.{ended}
 use Rattle.waypipe_run.proofs.script.read_script.Goals as goal
 
 pub returns-in-Err : goal.returns-in-Err

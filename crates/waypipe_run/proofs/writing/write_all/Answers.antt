@@ -1,4 +1,4 @@
-use Rattle.std.proofs.Common.{◌≡◌, ◌+◌, ◌∙◌, ap, take, drop, arith}
+use Rattle.std.proofs.Common.{◌∙◌, ap, take, drop, arith}
 use Rattle.waypipe_run.proofs.MovingLemmas.{held_more}
 use Rattle.wp_outside.specs.Pieces.{held_with}
 use Rattle.waypipe_run.proofs.writing.write_all.Goals as goal

@@ -1,4 +1,4 @@
-use Rattle.std.proofs.Common.{◌≡◌, [], ◌∷◌, List, ℕ, ap, ◌∙◌, sym, subst}
+use Rattle.std.proofs.Common.{List, ℕ, ap, ◌∙◌, sym, subst}
 use Rattle.wl_wire.specs.Wire.{cut, cut_rest}
 use Rattle.waypipe_run.specs.FarSteps.{OrMemory, Gave}
 use Rattle.waypipe_run.proofs.RowLemmas.{in_one, one_cut, one_rest}

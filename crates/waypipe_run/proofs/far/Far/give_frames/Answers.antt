@@ -1,9 +1,8 @@
-use Rattle.std.proofs.Common.{◌≡◌, ◌++◌, List, ℕ, Err, Ok, length, ap, ◌∙◌, sym, arith, length-append}
+use Rattle.std.proofs.Common.{◌≡◌, ◌++◌, length, ap, ◌∙◌, sym, arith, length-append}
 use Rattle.transfer_frames.specs.Grammar.{spelling}
 use Rattle.transfer_frames.specs.Front.{front}
 use Rattle.transfer_frames.proofs.FrameLaws.{length-spelling}
-use Rattle.waypipe_run.specs.FarSteps.{HasOne}
-use Rattle.waypipe_run.specs.Rows.{AreMessages, frames_of}
+use Rattle.waypipe_run.specs.Rows.{frames_of}
 use Rattle.waypipe_run.proofs.RowLemmas.{begun_one, begun_more, begun_fault, gave_frame, or_memory, messages_push}
 use Rattle.waypipe_run.proofs.far.Far.give_frames.Goals as goal
 

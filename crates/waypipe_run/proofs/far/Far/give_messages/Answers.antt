@@ -1,6 +1,6 @@
-use Rattle.std.proofs.Common.{◌≡◌, ◌++◌, ◌<◌, List, ℕ, [], ◌∷◌, Ok, Err, None, Option, Result, length, ap, ◌∙◌, sym, refl, arith, append_assoc}
+use Rattle.std.proofs.Common.{◌≡◌, ◌++◌, [], ◌∷◌, Ok, Err, None, ap, ◌∙◌, sym, arith, append_assoc}
 use Rattle.std.proofs.lemmas.List.{append-nil}
-use Rattle.wl_wire.specs.Wire.{first, cut, cut_rest}
+use Rattle.wl_wire.specs.Wire.{first, cut}
 use Rattle.wl_wire.specs.declared.faults.WireFault.{WireFault}
 use Rattle.wl_wire.proofs.FrontLemmas.{first-short}
 use Rattle.waypipe_run.proofs.CutLemmas.{cut_first, cut_rest_first, cut_waits, rest_refused}

@@ -1,4 +1,4 @@
-use Rattle.std.proofs.Common.{◌≡◌, ◌-◌, ◌≤◌, length}
+use Rattle.std.proofs.Common.{◌-◌, ◌≤◌}
 use Rattle.waypipe_run.specs.NearSteps.{Grew}
 use Rattle.waypipe_run.specs.Sides.{Waits}
 use Rattle.waypipe_run.proofs.near.Near.take.Given as goal

@@ -1,4 +1,4 @@
-use Rattle.std.proofs.Common.{◌≡◌, length, ◌∙◌, sym, arith}
+use Rattle.std.proofs.Common.{◌≡◌, length, ◌∙◌, arith}
 use Rattle.waypipe_run.proofs.RoundLemmas.{opens_round, opened_last, pushes_some}
 use Rattle.waypipe_run.proofs.runs.Run.drain.Goals as goal
 

@@ -1,4 +1,4 @@
-use Rattle.std.proofs.Common.{◌≡◌, ◌-◌, ◌<◌, length}
+use Rattle.std.proofs.Common.{◌≡◌, ◌-◌, length}
 use Rattle.waypipe_run.specs.Runs.{Ready, Carried, OpensIfMade}
 use Rattle.waypipe_run.proofs.runs.Run.drain.Given as goal
 

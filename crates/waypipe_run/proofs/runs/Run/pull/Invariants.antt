@@ -1,4 +1,3 @@
-use Rattle.std.proofs.Common.{◌≡◌}
 use Rattle.waypipe_run.specs.Runs.{Pulling, HeardMore}
 use Rattle.waypipe_run.proofs.runs.Run.pull.Given as goal
 

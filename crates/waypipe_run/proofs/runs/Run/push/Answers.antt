@@ -1,4 +1,4 @@
-use Rattle.std.proofs.Common.{◌≡◌, ◌+◌, ◌++◌, List, ℕ, length, take, drop, ap, ◌∙◌, sym, arith}
+use Rattle.std.proofs.Common.{◌≡◌, length, take, drop, ap, ◌∙◌, sym, arith}
 use Rattle.waypipe_run.specs.Runs.{open_line, sent_bytes}
 use Rattle.waypipe_run.proofs.RunLemmas.{sent_more, line_pushed, none_other}
 use Rattle.waypipe_run.proofs.runs.Run.push.Goals as goal

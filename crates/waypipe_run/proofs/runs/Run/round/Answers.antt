@@ -1,4 +1,3 @@
-use Rattle.std.proofs.Common.{◌≡◌}
 use Rattle.waypipe_run.proofs.RoundLemmas.{up_rounds}
 use Rattle.waypipe_run.proofs.runs.Run.round.Goals as goal
 
