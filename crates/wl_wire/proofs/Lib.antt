@@ -1,0 +1,4 @@
+pub mod FrontLemmas
+pub mod Cutting
+pub mod CuttingLaws
+pub mod ArgReading
