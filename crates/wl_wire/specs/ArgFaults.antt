@@ -1,5 +1,5 @@
 -- What is wrong with the arguments of a message in the wire format of the Wayland protocol: the fault of the first argument at fault, or bytes that are left.
-use Rattle.std.specs.Prelude.{◌≡◌, ℕ, ◌+◌, ◌-◌, ◌*◌, ◌/◌, ◌==◌, nat_lt, if◌then◌else◌, List, [], ◌∷◌, length, drop, slice_index, Bool, false, Option, Some, None, Result, Ok, Err}
+use Rattle.std.specs.Prelude.{◌≡◌, ℕ, ◌+◌, ◌==◌, nat_lt, if◌then◌else◌, List, [], ◌∷◌, length, drop, slice_index, Bool, false, Option, Some, None, Result, Ok, Err}
 use Rattle.wl_wire.specs.declared.faults.MessageFault.{MessageFault}
 use Rattle.wl_wire.specs.declared.faults.MessageFault.TheVariants.{Wire, Memory}
 use Rattle.wl_wire.specs.declared.faults.WireFault.{WireFault}

@@ -1,5 +1,5 @@
 -- The arguments of a message in the wire format of the Wayland protocol (the chapter "Wire Format" of its document): a relation between the places of the arguments, the bytes behind the header, and the arguments.
-use Rattle.std.specs.Prelude.{◌≡◌, ◌≢◌, ℕ, ℤ, zero, suc, ◌+◌, ◌-◌, ◌%◌, ◌^◌, ◌<◌, ◌≤◌, List, [], ◌∷◌, ◌++◌, length, take, drop, Bool, true, false, IsTrue}
+use Rattle.std.specs.Prelude.{◌≡◌, ℕ, ℤ, ◌-◌, ◌%◌, List, [], ◌∷◌, ◌++◌, length, Bool, IsTrue}
 use Rattle.std.specs.Int.{cast_signed, w32}
 use Rattle.wl_wire.specs.declared.arguments.Arg.{Arg}
 use Rattle.wl_wire.specs.declared.arguments.Arg.TheVariants as arg

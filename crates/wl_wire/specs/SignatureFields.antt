@@ -28,11 +28,11 @@ fields_of form =
 
 pub fields-form : (fields : Inside) → IsFilled fields → fields_of (form_of fields) ≡ fields
 fields-form fields filled =
-  let used : length (take fields.len fields.slots) ≡ fields.len =
+    let used : length (take fields.len fields.slots) ≡ fields.len =
     length-take-le fields.len fields.slots (omega (arith, filled.room, filled.eight)) in
-  let parts : take fields.len fields.slots ++ replicate (8 - length (take fields.len fields.slots)) unused ≡ fields.slots =
+    let parts : take fields.len fields.slots ++ replicate (8 - length (take fields.len fields.slots)) unused ≡ fields.slots =
     ap (λ n. take fields.len fields.slots ++ replicate (8 - n) unused) used
-      ∙ ap (λ rest. take fields.len fields.slots ++ rest) (sym filled.filled)
-      ∙ take-append-drop fields.len fields.slots in
-  let kept : List Slot → ℕ → Inside = λ slots len. record { slots = slots; len = len; destroys = fields.destroys } in
-  ap (λ slots. kept slots (length (take fields.len fields.slots))) parts ∙ ap (λ len. kept fields.slots len) used
+    ∙ ap (λ rest. take fields.len fields.slots ++ rest) (sym filled.filled)
+    ∙ take-append-drop fields.len fields.slots in
+    let kept : List Slot → ℕ → Inside = λ slots len. record { slots = slots; len = len; destroys = fields.destroys } in
+    ap (λ slots. kept slots (length (take fields.len fields.slots))) parts ∙ ap (λ len. kept fields.slots len) used

@@ -32,7 +32,11 @@ fn word_size(bytes: &[u8]) -> Result<usize, WireFault>
     ensures exact { result ≡ word_size bytes.now }
     ensures there { IfOk result (λ size. size ≤ length bytes.now) }
 {
-    if bytes.len() < 4 { Err(WireFault::ArgShort) } else { Ok(4) }
+    if bytes.len() < 4 {
+        Err(WireFault::ArgShort)
+    } else {
+        Ok(4)
+    }
 }
 
 #[tactic(auto, unfolding(crate::specs::ArgFaults::object_size))]
@@ -43,7 +47,11 @@ fn object_size(bytes: &[u8], null: bool) -> Result<usize, WireFault>
     if bytes.len() < 4 {
         Err(WireFault::ArgShort)
     } else if word_from(bytes, 0) == 0 {
-        if null { Ok(4) } else { Err(WireFault::NullNotAllowed) }
+        if null {
+            Ok(4)
+        } else {
+            Err(WireFault::NullNotAllowed)
+        }
     } else {
         Ok(4)
     }
@@ -58,7 +66,11 @@ fn array_size(bytes: &[u8]) -> Result<usize, WireFault>
         return Err(WireFault::ArgShort);
     }
     let span = span_of(bytes);
-    if bytes.len() < span { Err(WireFault::ArgShort) } else { Ok(span) }
+    if bytes.len() < span {
+        Err(WireFault::ArgShort)
+    } else {
+        Ok(span)
+    }
 }
 
 #[tactic(auto, unfolding(crate::specs::ArgFaults::string_size, crate::specs::ArgFaults::span_of))]
@@ -71,7 +83,11 @@ fn string_size(bytes: &[u8], null: bool) -> Result<usize, WireFault>
     }
     let count = word_from(bytes, 0) as usize;
     if count == 0 {
-        return if null { Ok(4) } else { Err(WireFault::NullNotAllowed) };
+        return if null {
+            Ok(4)
+        } else {
+            Err(WireFault::NullNotAllowed)
+        };
     }
     let span = span_of(bytes);
     if bytes.len() < span {
@@ -89,7 +105,11 @@ fn bind_size(bytes: &[u8]) -> Result<usize, WireFault>
     ensures there { IfOk result (λ size. size ≤ length bytes.now) }
 {
     match string_size(bytes, false) {
-        Ok(size) => if bytes.len() < size + 8 { Err(WireFault::ArgShort) } else { Ok(size + 8) },
+        Ok(size) => if bytes.len() < size + 8 {
+            Err(WireFault::ArgShort)
+        } else {
+            Ok(size + 8)
+        },
         Err(fault) => Err(fault),
     }
 }

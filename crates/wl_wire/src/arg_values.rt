@@ -70,7 +70,11 @@ fn bind_arg(alloc: Global, bytes: &[u8], size: usize) -> Result<Arg, AllocError>
     let version = word_from(bytes, size - 8);
     let id = word_from(bytes, size - 4);
     match counted(alloc, bytes, count - 1) {
-        Ok(interface) => Ok(Arg::Bind { interface, version, id }),
+        Ok(interface) => Ok(Arg::Bind {
+            interface,
+            version,
+            id,
+        }),
         Err(error) => Err(error),
     }
 }
@@ -79,7 +83,12 @@ fn bind_arg(alloc: Global, bytes: &[u8], size: usize) -> Result<Arg, AllocError>
 ///
 /// # Errors
 /// Only where memory runs out.
-pub(crate) fn arg_value(alloc: Global, slot: Slot, bytes: &[u8], size: usize) -> Result<Arg, AllocError>
+pub(crate) fn arg_value(
+    alloc: Global,
+    slot: Slot,
+    bytes: &[u8],
+    size: usize,
+) -> Result<Arg, AllocError>
     requires { arg_size slot.kind slot.null bytes.now ≡ Ok size }
     ensures { IfOk result (λ arg. IsArg slot.kind slot.null (take size bytes.now) arg) }
 {
