@@ -1,5 +1,5 @@
 -- Finding a row of a list by its name: what is found has the name, and where names differ each row is found.
-use Rattle.std.proofs.Common.{◌≡◌, ℕ, zero, suc, ◌+◌, List, [], ◌∷◌, refl, sym, ap, ◌∙◌, subst, arith, rules, Bool, true, false, ◌&&◌, map, not, cond, Option, Some, None}
+use Rattle.std.proofs.Common.{◌≡◌, ℕ, zero, suc, ◌+◌, List, [], ◌∷◌, refl, sym, ap, ◌∙◌, arith, rules, Bool, true, false, ◌&&◌, map, not, cond, Option, Some}
 use Rattle.std.specs.List.{position_from, list_all, slice_get, find}
 use Rattle.std.specs.Str.{bytes_eq}
 use Rattle.std.proofs.lemmas.Slice.Eq.{bytes_eq-Decides}

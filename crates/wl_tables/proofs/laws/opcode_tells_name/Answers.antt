@@ -1,8 +1,8 @@
-use Rattle.std.proofs.Common.{◌≡◌, ℕ, ◌+◌, List, refl, sym, ap, ◌∙◌, arith, rules, subst, true, Some, None, Option, option_map}
+use Rattle.std.proofs.Common.{◌≡◌, ℕ, ◌+◌, List, refl, sym, ap, ◌∙◌, arith, rules, true, Some, None, Option, option_map}
 use Rattle.std.specs.List.{slice_get, position_from}
 use Rattle.std.specs.Str.{bytes_eq}
 use Rattle.std.proofs.lemmas.Slice.Eq.{bytes_eq-Decides}
-use Rattle.wl_tables.specs.Messages.{way_of, message_name, opcode_of}
+use Rattle.wl_tables.specs.Messages.{way_of}
 use Rattle.wl_tables.specs.Places.{MessageRow}
 use Rattle.wl_tables.specs.Table.{messages}
 use Rattle.wl_tables.proofs.Naming.{IsAt, position-passes, found-at, names_differ}
