@@ -12,3 +12,4 @@ pub mod LastLine
 pub mod Moves
 pub mod Standing
 pub mod Hearing
+pub mod Due

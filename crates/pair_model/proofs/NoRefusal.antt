@@ -133,7 +133,7 @@ read_with : {stop : Option ℕ} {read : List ℕ} (seen : List Frame) (frame : F
     → Reads (Some (length (spellings (seen ++ frame ∷ [])))) read (seen ++ frame ∷ [])
 read_with seen frame more h f e = record { frames = all_push seen frame h.frames f; rest = more; bytes = e ∙ spellings_push seen frame more; ends = refl }
 
-refuses_none : {token : List ℕ} {reader writer : Side} (r : Wire token reader) (w : Wire token writer)
+pub refuses_none : {token : List ℕ} {reader writer : Side} (r : Wire token reader) (w : Wire token writer)
     → ((c : ℕ) → Begins (read_on c reader.lines) (written_on c writer.lines)) → ((c : ℕ) → Begins (read_on c writer.lines) (written_on c reader.lines))
     → Counts writer → RefusesNone token reader
 unfolding judged
@@ -158,7 +158,7 @@ refuses_none {token} {reader} {writer} r w there back counts seen bound c frame 
 -- ---- the grammar
 
 -- bytes that begin a row of frames show no fault
-no_fault : (row : List Frame) (rest more : List ℕ) → AllByRecursion IsFrame row → rest ++ more ≡ spellings row → (cause : FrameCause) → front rest ≡ Err cause → ⊥
+pub no_fault : (row : List Frame) (rest more : List ℕ) → AllByRecursion IsFrame row → rest ++ more ≡ spellings row → (cause : FrameCause) → front rest ≡ Err cause → ⊥
 no_fault [] rest more h e cause k =
     let none : rest ≡ [] = no_bytes rest more e in
     let waits : front rest ≡ Ok None = front-short rest (omega (arith, ap length none)) in

@@ -1,5 +1,5 @@
 -- The first two laws: each frame once, and none lost.
-use Rattle.std.proofs.Common.{◌≡◌, ℕ, ◌+◌, ◌-◌, ◌≤◌, suc, zero, List, ◌++◌, drop, take, length, sym, ap, subst, ◌∙◌, arith}
+use Rattle.std.proofs.Common.{◌≡◌, ℕ, ◌+◌, ◌-◌, ◌≤◌, suc, zero, List, ◌++◌, drop, take, length, refl, sym, ap, subst, ◌∙◌, arith}
 use Rattle.std.proofs.lemmas.List.{drop-drop, take-append-drop}
 use Rattle.transfer_frames.specs.declared.frame.Frame.{Frame}
 use Rattle.pair_model.specs.Lines.{Begins, Side, read_on, written_on}
@@ -22,6 +22,7 @@ accepted_first {token} {other} {reader} {writer} r w b =
     let front : Begins (accepted_below r.seen r.bound) writer.made = accepted_begin b r.bound in
     record {
       count = omega (arith, begins_length front, r.accepted);
+      accepts = record { seen = r.seen; bound = r.bound; sees = r.sees; frames_are = sym (begins_take front ∙ ap (λ n. take n writer.made) (sym r.accepted)) };
       frames = λ accepted k. k.frames_are ∙ one_accepted k.sees r.sees ∙ begins_take front ∙ ap (λ n. take n writer.made) (sym r.accepted);
     }
 
@@ -49,7 +50,7 @@ keeps_rest {token} {other} {reader} {writer} r w b =
     let known : writer.acknowledged ≤ reader.accepted = omega (arith, told_accepted b w.bound, accepted_at_most r.sees w.bound, r.accepted, w.acknowledged) in
     record {
       known = known;
-      kept = λ frames k. k.kept_is;
+      keeps = record { seen = w.seen; bound = w.bound; sees = w.sees; acknowledged = w.acknowledged; kept_is = refl };
       unaccepted = λ frames k. subst (λ (fs : List Frame). fs ≡ take (reader.accepted - writer.acknowledged) fs ++ drop reader.accepted writer.made) (sym k.kept_is) (later writer.acknowledged reader.accepted writer.made known);
     }
 

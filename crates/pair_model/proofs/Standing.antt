@@ -222,22 +222,22 @@ same_wrote {token} {c} {received} {r} {upto} {u} {made} {seen} {frames} {written
     (subst (λ (fs : List Frame). (written ≡ []) ⊎ Wrote token c r u made fs written) (sym es) (subst (λ (bs : List ℕ). (bs ≡ []) ⊎ Wrote token c r u made frames bs) (sym eb) h)))
 
 module _ (token : List ℕ) (side : Side) (here : Here) (st : Stands token side here) where
-  all_seen : ℕ → List Frame
+  unfoldable pub all_seen : ℕ → List Frame
   all_seen c = seen_with here.connection st.seen st.past_seen c
 
-  read_here : (c : ℕ) → c ≡ here.connection → read_on c side.lines ≡ st.line.read
+  pub read_here : (c : ℕ) → c ≡ here.connection → read_on c side.lines ≡ st.line.read
   read_here c e = ap (read_on c) st.lines ∙ ap (λ n. read_on n (st.earlier ++ st.line ∷ [])) e ∙ read_last st.earlier st.line here.connection st.past.numbers st.number
 
-  read_other : (c : ℕ) → c ≢ here.connection → read_on c side.lines ≡ read_on c st.earlier
+  pub read_other : (c : ℕ) → c ≢ here.connection → read_on c side.lines ≡ read_on c st.earlier
   read_other c apart = ap (read_on c) st.lines ∙ read_before st.earlier st.line c (λ e. apart (sym e ∙ st.number))
 
-  written_here : (c : ℕ) → c ≡ here.connection → written_on c side.lines ≡ st.line.written
+  pub written_here : (c : ℕ) → c ≡ here.connection → written_on c side.lines ≡ st.line.written
   written_here c e = ap (written_on c) st.lines ∙ ap (λ n. written_on n (st.earlier ++ st.line ∷ [])) e ∙ written_last st.earlier st.line here.connection st.past.numbers st.number
 
   written_other : (c : ℕ) → c ≢ here.connection → written_on c side.lines ≡ written_on c st.earlier
   written_other c apart = ap (written_on c) st.lines ∙ written_before st.earlier st.line c (λ e. apart (sym e ∙ st.number))
 
-  accepted_all : accepted_below all_seen (suc here.connection) ≡ accepted_below st.past_seen here.connection ++ counted st.seen
+  pub accepted_all : accepted_below all_seen (suc here.connection) ≡ accepted_below st.past_seen here.connection ++ counted st.seen
   unfolding all_seen
   accepted_all =
       let before : accepted_below all_seen here.connection ≡ accepted_below st.past_seen here.connection = accepted_with here.connection st.seen st.past_seen here.connection (omega arith) in
@@ -273,7 +273,7 @@ module _ (token : List ℕ) (side : Side) (here : Here) (st : Stands token side 
     | inr (inr above) ↦ inl (written_other c (λ e. omega arith) ∙ written_none st.earlier here.connection c st.past.numbers (omega arith))
   ]
 
-  sees_with : (stop : Option Stop) → Reads (stop_on here.connection stop) st.line.read st.seen → ((c : ℕ) → c ≢ here.connection → stop_on c stop ≡ None)
+  pub sees_with : (stop : Option Stop) → Reads (stop_on here.connection stop) st.line.read st.seen → ((c : ℕ) → c ≢ here.connection → stop_on c stop ≡ None)
       → Sees (record side { stop = stop }) (suc here.connection) all_seen
   sees_with stop h others = record { reads = reads_all stop h others; past = λ c l. read_other c (λ e. omega arith) ∙ read_none st.earlier here.connection c st.past.numbers (omega arith) }
 

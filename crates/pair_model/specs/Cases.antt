@@ -1,5 +1,4 @@
--- What a side may have written on a connection, said by cases: a part of RESTART, or RESTART, whole frames
--- and a rest.
+-- What a side may have written on a connection of the link, which is this project's own, said by cases: a part of RESTART, or RESTART, whole frames and a rest.
 use Rattle.std.specs.Prelude.{◌≡◌, ℕ, ◌<◌, List, [], ◌∷◌, ◌++◌, drop, length, ◌⊎◌}
 use Rattle.std.specs.Option.{MatchOption}
 use Rattle.std.specs.List.{AllByRecursion}

@@ -1,4 +1,4 @@
--- The laws over two sides of a link.
+-- The laws over two sides of a link, which is this project's own: what agreement on the bytes gives.
 use Rattle.std.specs.Prelude.{◌≡◌, ◌≢◌, Err, ℕ, ◌-◌, ◌≤◌, None, List, [], ◌++◌, take, drop, length}
 use Rattle.transfer_frames.specs.declared.frame.Frame.{Frame}
 use Rattle.transfer_frames.specs.declared.cause.FrameCause.{FrameCause}
@@ -13,6 +13,7 @@ use Rattle.pair_model.specs.Cases.{ByCases}
 -- what the reader accepted are the first frames that the writer made, as many as it accepted
 pub record AcceptedFirst (reader writer : Side) : Type 0 where
   pub count : reader.accepted ≤ length writer.made
+  pub accepts : Accepts reader (take reader.accepted writer.made)
   pub frames : (accepted : List Frame) → Accepts reader accepted → accepted ≡ take reader.accepted writer.made
 
 -- Where both sides agree, each has accepted just the first frames that the other made, each once.
@@ -24,7 +25,7 @@ EachOnce = (token other : List ℕ) (near far : Side) → Wire token near → Wi
 -- some that were accepted, and each that was not.
 pub record KeepsRest (writer reader : Side) : Type 0 where
   pub known : writer.acknowledged ≤ reader.accepted
-  pub kept : (frames : List Frame) → Kept writer frames → frames ≡ drop writer.acknowledged writer.made
+  pub keeps : Kept writer (drop writer.acknowledged writer.made)
   pub unaccepted : (frames : List Frame) → Kept writer frames → frames ≡ take (reader.accepted - writer.acknowledged) frames ++ drop reader.accepted writer.made
 
 -- Where both sides agree, each still keeps every frame that the other has not accepted.

@@ -1,5 +1,4 @@
--- The lines of a link as one of its two sides keeps them, and what it means that both sides agree on
--- the bytes. A connection's number is the index: a side has at most one line of each number.
+-- The lines of a link as one of its two sides keeps them, and what it means that both sides agree on the bytes; the link is this project's own. A connection's number is the index: a side has at most one line of each number.
 use Rattle.std.specs.Prelude.{◌≡◌, ℕ, ◌==◌, cond, List, [], ◌∷◌, ◌++◌, Option}
 use Rattle.transfer_frames.specs.declared.frame.Frame.{Frame}
 

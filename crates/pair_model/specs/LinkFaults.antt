@@ -1,5 +1,4 @@
--- For which causes a side refuses the next frame of a connection: those that are told by what it keeps of
--- the session, in the order in which they are tested.
+-- For which causes a side refuses the next frame of a connection: those that are told by what it keeps of the session, in the order in which they are tested; they are this project's own.
 use Rattle.std.specs.Prelude.{◌≡◌, ℕ, ◌==◌, ◌+◌, ◌^◌, ◌<◌, ◌||◌, nat_lt, nat_le, not, Bool, false, List, [], ◌∷◌, ◌++◌, Option, Some, None, length}
 use Rattle.std.specs.Str.{bytes_eq}
 use Rattle.transfer_frames.specs.declared.frame.Frame.{Frame}

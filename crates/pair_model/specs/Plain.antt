@@ -1,4 +1,4 @@
--- What a side heard from the other, as its lines tell it.
+-- What a side of a link, which is this project's own, heard from the other, as its lines tell it.
 use Rattle.std.specs.Prelude.{◌≡◌, ℕ, ◌≤◌, suc, List, [], ◌∷◌, ◌++◌, Option, None, max}
 use Rattle.transfer_frames.specs.declared.frame.Frame.{Frame}
 use Rattle.pair_model.specs.declared.plain.PlainLine.{PlainLine}

@@ -1,4 +1,4 @@
--- What it means that a side has nothing to send, and that all was read.
+-- What it means that a side of a link, which is this project's own, has nothing to send, and that all was read.
 use Rattle.std.specs.Prelude.{◌≡◌, ℕ, suc, List, [], ◌∷◌, None, drop, length}
 use Rattle.std.specs.Option.{MatchOption}
 use Rattle.transfer_frames.specs.declared.frame.Frame.{Frame}

@@ -1,14 +1,16 @@
--- The laws of one side's steps: each keeps what stands between steps, and what stands gives what a side
--- may have written and read.
-use Rattle.std.specs.Prelude.{◌≡◌, ℕ, ◌<◌, ◌≤◌, List, [], ◌∷◌, ◌++◌, Option, Some, None, true, drop, length}
+-- The laws of the steps of one side of a link, which is this project's own: each keeps what stands between steps, and what stands gives what a side may have written and read.
+use Rattle.std.specs.Prelude.{◌≡◌, ◌≢◌, Err, Bool, ℕ, ◌<◌, ◌≤◌, List, [], ◌∷◌, ◌++◌, Option, Some, None, true, drop, length}
 use Rattle.std.specs.List.{AllByRecursion}
 use Rattle.transfer_frames.specs.declared.frame.Frame.{Frame}
 use Rattle.transfer_frames.specs.declared.frame.Frame.TheVariants.{Restart, Ack}
 use Rattle.transfer_frames.specs.Grammar.{role, IsFrame, spelling}
 use Rattle.transfer_frames.specs.Laws.{NoFrame}
-use Rattle.pair_model.specs.Lines.{Side}
-use Rattle.pair_model.specs.Wire.{Wire, is_counted}
-use Rattle.pair_model.specs.LinkFaults.{Judge, link_fault}
+use Rattle.transfer_frames.specs.declared.cause.FrameCause.{FrameCause}
+use Rattle.transfer_frames.specs.Front.{front}
+use Rattle.pair_model.specs.Lines.{Side, Begins, read_on, written_on}
+use Rattle.pair_model.specs.Wire.{Wire, Accepts, is_counted}
+use Rattle.pair_model.specs.LinkFaults.{Judge, link_fault, has_closed}
+use Rattle.pair_model.specs.Laws.{Counts}
 use Rattle.pair_model.specs.Quiet.{NoFront}
 use Rattle.pair_model.specs.Steps.{Here, Stands, Idle, MayGreet, side_up, here_up, side_sent, here_sent, side_fed, here_fed, side_read, here_read, here_ack, here_next, side_made, side_stopped}
 
@@ -64,3 +66,31 @@ StoppedWire = (token : List ℕ) (side : Side) (here : Here) → Stands token si
 abbrev pub IdleNoFront : Type 0
 IdleNoFront = (token : List ℕ) (side : Side) (here : Here) → Stands token side here → NoFrame here.unread → Idle side here
     → NoFront token here.connection side
+
+-- what a side judges the frame by that it reads next on the connection that is up; closed says whether the other's CLOSE was accepted
+abbrev pub judge_here : List ℕ → Side → Here → Bool → Judge
+judge_here token side here closed = record {
+  token = token;
+  connection = here.connection;
+  acknowledged = side.acknowledged;
+  made = length side.made;
+  whole = here.whole;
+  accepted = side.accepted;
+  closed = closed;
+}
+
+-- this side and the other agree
+pub record AgreesWith (side other : Side) : Type 0 where
+  pub reads : (c : ℕ) → Begins (read_on c side.lines) (written_on c other.lines)
+  pub is_read : (c : ℕ) → Begins (read_on c other.lines) (written_on c side.lines)
+
+-- Where both sides agree, a whole frame that stands at the front of the bytes read is not refused,
+abbrev pub NextIsDue : Type 0
+NextIsDue = (token : List ℕ) (side other : Side) (here : Here) (closed : Bool) (frame : Frame) (more : List ℕ) → Stands token side here → Wire token other
+    → AgreesWith side other → Counts other → ((accepted : List Frame) → Accepts (side_stopped here side) accepted → closed ≡ has_closed accepted)
+    → IsFrame frame → here.unread ≡ spelling frame ++ more → link_fault (judge_here token side here closed) here.answer (role frame) ≡ None
+
+-- and no fault of the grammar stands there.
+abbrev pub NoFaultComes : Type 0
+NoFaultComes = (token : List ℕ) (side other : Side) (here : Here) (cause : FrameCause) → Stands token side here → Wire token other
+    → AgreesWith side other → front here.unread ≢ Err cause

@@ -1,5 +1,4 @@
--- The steps of one side on a connection, and what stands between them: what is kept of the connection that
--- is up, beside what the side keeps of the session. The connections before it are frozen.
+-- The steps of one side of a link, which is this project's own, on a connection, and what stands between them: what is kept of the connection that is up, beside what the side keeps of the session. The connections before it are frozen.
 use Rattle.std.specs.Prelude.{◌≡◌, ℕ, ◌+◌, ◌<◌, ◌≤◌, suc, cond, Bool, true, false, List, [], ◌∷◌, ◌++◌, Option, Some, None, max, drop, take, length, ◌-◌, ◌⊎◌}
 use Rattle.std.specs.Option.{MatchOption}
 use Rattle.std.specs.List.{AllByRecursion}

@@ -1,4 +1,4 @@
--- What two sides of a link may have written and read, and which frames that makes them accept and keep.
+-- What two sides of a link may have written and read, and which frames that makes them accept and keep; the link's frames are this project's own.
 use Rattle.std.specs.Prelude.{◌≡◌, ℕ, ◌==◌, ◌<◌, ◌≤◌, suc, zero, cond, List, [], ◌∷◌, ◌++◌, Option, Some, None, Bool, true, false, max, drop, length, ◌⊎◌}
 use Rattle.std.specs.List.{flat_map, filter, filter_map, AllByRecursion}
 use Rattle.std.specs.Option.{MatchOption}

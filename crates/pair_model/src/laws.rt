@@ -1,7 +1,7 @@
 // The laws over two sides: functions that do nothing, and whose contract is the law.
 
 ghost use Rattle.pair_model.specs.Laws.{EachOnce, NoneLost, Unspoiled, QuietIsDone, SameByCases};
-ghost use Rattle.pair_model.specs.StepLaws.{UpStands, SentStands, FedStands, ReadStands, AckStands, NextStands, MadeStands, StandsWire, StoppedWire, MadeWire, IdleNoFront};
+ghost use Rattle.pair_model.specs.StepLaws.{UpStands, SentStands, FedStands, ReadStands, AckStands, NextStands, MadeStands, StandsWire, StoppedWire, MadeWire, IdleNoFront, NextIsDue, NoFaultComes};
 
 /// Where both sides agree on the bytes, what each has accepted are the first frames that the other made,
 /// in order, each once.
@@ -59,4 +59,11 @@ pub fn standing_is_wire()
 /// Where no front is left, all made is sent and all accepted is told, there is nothing to send.
 pub fn idle_has_no_front()
     ensures { IdleNoFront }
+{}
+
+/// Where both sides agree and have one token, the frame that a side comes to is not refused, and its bytes
+/// show no fault.
+pub fn next_is_due()
+    ensures link { NextIsDue }
+    ensures grammar { NoFaultComes }
 {}

@@ -8,9 +8,11 @@ mod plain;
 mod turns;
 
 pub use laws::{
-    each_once, idle_has_no_front, none_lost, quiet_is_done, same_by_cases,
+    each_once, idle_has_no_front, next_is_due, none_lost, quiet_is_done, same_by_cases,
     standing_is_wire, steps_stand, unspoiled, up_stands,
 };
 pub use plain::{Heard, PlainLine, hear_lines};
 pub use turns::{Choice, Turn};
 
+#[cfg(test)]
+mod tests;

@@ -1,5 +1,5 @@
-use Rattle.std.proofs.Common.{rules, arith, length, ap, ◌<◌, Ok, None, ◌≡◌}
-use Rattle.transfer_frames.specs.Front.{Takes, front}
+use Rattle.std.proofs.Common.{rules, arith, length, ap}
+use Rattle.transfer_frames.specs.Front.{Takes}
 use Rattle.pair_model.proofs.Hearing.{takes_some, heard_none}
 use Rattle.pair_model.proofs.plain.Heard.take_line.Goals as goal
 
