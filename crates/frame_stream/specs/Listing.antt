@@ -1,8 +1,7 @@
 -- The listing of a whole stream of the link's frames: a line for each frame, then the rest or the fault behind them; the frames and the lines are this project's own.
-use Rattle.std.specs.Prelude.{◌≡◌, ℕ, ◌+◌, List, [], ◌∷◌, ◌++◌, length, Option, Some, None, Result, Ok, Err}
+use Rattle.std.specs.Prelude.{◌≡◌, ℕ, ◌+◌, List, [], ◌∷◌, ◌++◌, length, None, Ok, Err}
 use Rattle.std.specs.List.{flat_map, AllByRecursion}
 use Rattle.transfer_frames.specs.declared.frame.Frame.{Frame}
-use Rattle.transfer_frames.specs.declared.cause.FrameCause.{FrameCause}
 use Rattle.transfer_frames.specs.Numbers.{IsBytes}
 use Rattle.transfer_frames.specs.Grammar.{IsFrame, spelling}
 use Rattle.transfer_frames.specs.Front.{front}
