@@ -93,7 +93,8 @@ impl Blocks {
 
     /// How many runs the set has.
     pub fn len(&self) -> usize
-        ensures { result ≡ length self.now }
+        ensures count { result ≡ length self.now }
+        ensures rises { Rises self.now }
     {
         self.runs.len()
     }

@@ -113,6 +113,8 @@ pub(crate) fn replace_runs(
         return Ok(());
     }
     runs[from] = run;
-    drop(runs.drain(from + 1..to));
+    if from + 1 < to {
+        drop(runs.drain(from + 1..to));
+    }
     Ok(())
 }

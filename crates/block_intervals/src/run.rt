@@ -3,7 +3,9 @@ ghost use Rattle.std.specs.Prelude.{◌≡◌, min, max};
 /// The blocks from `first` up to, but not with, `end`.
 #[derive(Clone, Copy, Debug, PartialEq, Eq)]
 pub struct Run {
+    /// Its first block.
     pub first: u32,
+    /// The block after its last.
     pub end: u32,
 }
 

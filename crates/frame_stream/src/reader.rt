@@ -77,8 +77,8 @@ impl FrameReader {
     /// isn't at fault.
     ///
     /// # Errors
-    /// `Frame` with the first fault at the front, again at each later call; `Memory` where memory runs out.
-    /// Nothing is changed then.
+    /// `Frame` with the first fault at the front, again at each later call; `Memory` where a whole frame stands
+    /// there and memory runs out. Nothing is changed then.
     pub fn next_frame(&mut self) -> Result<Option<Frame>, DecodeFault>
         ensures exact { Answers result (front self.old.front) }
         ensures rest { self.old.front ≡ given result ++ self.new.front }

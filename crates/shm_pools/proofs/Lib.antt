@@ -1,1 +1,3 @@
 mod Products
+mod Segments
+mod FileWords

@@ -4,11 +4,14 @@ use Rattle.std.specs.List.{flat_map, AllByRecursion}
 use Rattle.std.proofs.lemmas.Bool.{cases_lt, lt-ltb, le-ltb}
 use Rattle.std.proofs.lemmas.List.{take_at, length-append, length-take, take-append-drop, take-append-le, append_cancel_left}
 use Rattle.transfer_frames.specs.declared.frame.Frame.{Frame}
+use Rattle.std.specs.Prelude.{IsSome}
 use Rattle.transfer_frames.specs.declared.cause.FrameCause.{FrameCause}
+use Rattle.transfer_frames.specs.declared.cause.DecodeFault.{DecodeFault}
+use Rattle.transfer_frames.specs.declared.cause.DecodeFault.TheVariants as faults
 use Rattle.transfer_frames.specs.Numbers.{word_of, IsBytes}
 use Rattle.transfer_frames.specs.Grammar.{first_word, padded, spelling, IsFrame, Spells}
 use Rattle.transfer_frames.specs.Faults.{frame_length, word_fault, first_fault}
-use Rattle.transfer_frames.specs.Front.{frame_in, unless, front}
+use Rattle.transfer_frames.specs.Front.{frame_in, unless, front, Reads, Answers, IsWhole}
 use Rattle.transfer_frames.specs.Laws.{NoFrame}
 use Rattle.transfer_frames.proofs.NumberLaws.{word_of-take, IsBytes-take}
 use Rattle.transfer_frames.proofs.FrameLaws.{word_passes, found, spelled_word, spelled_alone, spelled_size, spelled_word_fault, length-spelling, spelled_no_fault, spelled_frame}
@@ -38,6 +41,15 @@ least_length word none = let w = word_passes word none in omega (arith, w.least)
 -- the whole frame has the same first word
 pub word_of-whole : (bytes : List ℕ) → word_fault (word_of bytes) ≡ None → word_of (take (frame_length (word_of bytes)) bytes) ≡ word_of bytes
 word_of-whole bytes none = word_of-take (frame_length (word_of bytes)) bytes (least_length (word_of bytes) none)
+
+is_whole : (read : Option Frame) → IsSome read → IsWhole (Ok read)
+is_whole (Some frame) some = tt
+is_whole None some = absurd cc
+
+-- what a reader of the whole frame says of the front
+pub fault_at_front : (fault : DecodeFault) (cause : Option FrameCause) (read : Option Frame) (seen : Result (Option Frame) FrameCause) → Reads (Err fault) cause read → seen ≡ unless cause (Ok read) → Answers (Err fault) seen
+fault_at_front (faults.Frame c) cause read seen r e = e ∙ ap (λ (x : Option FrameCause). unless x (Ok read)) r
+fault_at_front faults.Memory cause read seen r e = subst IsWhole (sym (e ∙ ap (λ (x : Option FrameCause). unless x (Ok read)) r.0)) (is_whole read r.1)
 
 pub ruleset fronts = (front-short, front-bad_word, front-waits, front-whole, word_of-whole)
 

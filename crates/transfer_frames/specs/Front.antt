@@ -1,5 +1,5 @@
 -- What stands at the front of a stream of bytes: a frame, the beginning of one, or a fault.
-use Rattle.std.specs.Prelude.{◌≡◌, ℕ, ◌≤◌, nat_lt, if◌then◌else◌, List, [], length, take, drop, Option, Some, None, Result, Ok, Err, map}
+use Rattle.std.specs.Prelude.{◌≡◌, ℕ, ◌≤◌, nat_lt, if◌then◌else◌, List, [], length, take, drop, Option, Some, None, Result, Ok, Err, IsSome, map}
 use Rattle.transfer_frames.specs.declared.frame.Frame.{Frame}
 use Rattle.transfer_frames.specs.declared.frame.Frame.TheVariants as frames
 use Rattle.transfer_frames.specs.declared.cause.FrameCause.{FrameCause}
@@ -49,11 +49,16 @@ front bytes =
     if nat_lt (length bytes) (frame_length (word_of bytes)) then Ok None else
     unless (first_fault whole) (Ok (frame_in whole)))
 
--- what is read from a stream is what stands at its front; want of memory says nothing
+-- a whole frame is read
+abbrev pub IsWhole : Result (Option Frame) FrameCause → Type 0
+IsWhole (Ok (Some frame)) = Unit {0}
+IsWhole read = ⊥
+
+-- what is read from a stream is what stands at its front; memory is wanted for a whole frame alone
 abbrev pub Answers : Result (Option Frame) DecodeFault → Result (Option Frame) FrameCause → Type 0
 Answers (Ok frame) read = read ≡ Ok frame
 Answers (Err (faults.Frame cause)) read = read ≡ Err cause
-Answers (Err faults.Memory) read = Unit {0}
+Answers (Err faults.Memory) read = IsWhole read
 
 -- the frame, without how many bytes it took
 abbrev pub frame_alone : Result (Option (Frame × ℕ)) DecodeFault → Result (Option Frame) DecodeFault
@@ -70,11 +75,11 @@ abbrev pub given : Result (Option Frame) DecodeFault → List ℕ
 given (Ok (Some frame)) = spelling frame
 given answer = []
 
--- what a reader answers: there is no fault and this is the frame, or it is this fault
+-- what a reader answers: there is no fault and this is the frame, or it is this fault; memory is wanted for a frame alone
 abbrev pub Reads : Result Frame DecodeFault → Option FrameCause → Option Frame → Type 0
 Reads (Ok frame) fault read = (fault ≡ None) × (read ≡ Some frame)
 Reads (Err (faults.Frame cause)) fault read = fault ≡ Some cause
-Reads (Err faults.Memory) fault read = Unit {0}
+Reads (Err faults.Memory) fault read = (fault ≡ None) × IsSome read
 
 -- a type whose frames hold no list: all but four
 abbrev pub IsSmall : Option FrameType → Type 0

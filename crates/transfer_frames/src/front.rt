@@ -14,7 +14,7 @@ use std::alloc::Global;
 /// frame stands there and its first word, if there, isn't at fault.
 ///
 /// # Errors
-/// `Frame` with the first fault at the front; `Memory` where memory runs out.
+/// `Frame` with the first fault at the front; `Memory` where a whole frame stands there and memory runs out.
 #[tactic(auto, using(crate::proofs::FrontLaws::fronts))]
 pub fn first_frame(alloc: Global, bytes: &[u8]) -> Result<Option<(Frame, usize)>, DecodeFault>
     ensures exact { Answers (frame_alone result) (front bytes.now) }

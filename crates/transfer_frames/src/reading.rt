@@ -160,7 +160,7 @@ fn read(alloc: Global, bytes: &[u8]) -> Result<Frame, DecodeFault>
 /// are read without.
 ///
 /// # Errors
-/// `Frame` with the first fault of the bytes; `Memory` where memory runs out.
+/// `Frame` with the first fault of the bytes; `Memory` where they are a frame and memory runs out.
 pub fn decode(alloc: Global, bytes: &[u8]) -> Result<Frame, DecodeFault>
     requires word { 4 ≤ length bytes.now }
     requires whole { word_fault (word_of bytes.now) ≡ None → length bytes.now ≡ frame_length (word_of bytes.now) }

@@ -83,3 +83,15 @@ pub rest-message : (bytes : List ℕ) (size : ℕ) → first bytes ≡ Ok (Some 
 rest-message bytes size e =
     let whole : IsMessage (take size bytes) = (begins-found bytes (take size bytes) e).is_message in
     sym (cut-message (take size bytes) (drop size bytes) whole).1 ∙ ap cut_rest (take-append-drop size bytes)
+
+-- how the messages go on behind what stands in front
+pub cut-waits : (bytes : List ℕ) → first bytes ≡ Ok None → cut bytes ≡ []
+cut-waits bytes e = (cut-nothing bytes (stops-waits bytes e)).0
+
+pub cut-fault : (bytes : List ℕ) (fault : WireFault) → first bytes ≡ Err fault → cut bytes ≡ []
+cut-fault bytes fault e = (cut-nothing bytes (stops-fault bytes fault e)).0
+
+pub cut-front : (bytes : List ℕ) (size : ℕ) → first bytes ≡ Ok (Some (take size bytes)) → cut bytes ≡ take size bytes ∷ cut (drop size bytes)
+cut-front bytes size e =
+    let whole : IsMessage (take size bytes) = (begins-found bytes (take size bytes) e).is_message in
+    ap cut (sym (take-append-drop size bytes)) ∙ (cut-message (take size bytes) (drop size bytes) whole).0

@@ -1,3 +1,10 @@
+pub mod ArgFaults
+pub mod ArgLaws
+pub mod ArgStep
+pub mod Arguments
+pub mod Building
 pub mod Framing
+pub mod SignatureFields
+pub mod SignatureForm
 pub mod Wire
 pub mod WireLaws

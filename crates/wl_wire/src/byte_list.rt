@@ -157,3 +157,22 @@ pub fn append_reserved(bytes: &mut Vec<u8>, piece: &[u8])
 {
     bytes.extend_from_slice(piece).unwrap();
 }
+
+#[cfg(test)]
+mod tests {
+    use super::*;
+    use std::test::Fail;
+
+    #[test]
+    fn grows_and_gives_back(rt: HostRuntime) -> Result<(), Fail> {
+        let mut list = Bytes::new(rt.alloc());
+        list.push(1)?;
+        list.append(&[2, 3])?;
+        assert_eq!(rt; list.as_slice(), [1, 2, 3].as_slice());
+        let copy = Bytes::from_slice(rt.alloc(), list.as_slice())?;
+        assert_eq!(rt; list.clone()? == copy, true);
+        list.clear();
+        assert_eq!(rt; list == copy, false);
+        Ok(())
+    }
+}

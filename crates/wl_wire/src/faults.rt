@@ -1,5 +1,9 @@
 // What can be wrong with a message.
 
+ghost use Rattle.std.specs.Prelude.{◌≡◌};
+ghost use Rattle.wl_wire.specs.declared.faults.MessageFault.TheVariants.{Memory};
+
+use std::alloc::AllocError;
 use thiserror::Error;
 
 /// What is wrong with the bytes of a message, by the wire format of the Wayland protocol.
@@ -47,4 +51,12 @@ pub enum MessageFault {
     /// Memory ran out; nothing was changed.
     #[error("out of memory")]
     Memory,
+}
+
+impl From<AllocError> for MessageFault {
+    ghost from_gives = { λ _ fault. fault ≡ Memory };
+
+    fn from(_error: AllocError) -> MessageFault {
+        MessageFault::Memory
+    }
 }

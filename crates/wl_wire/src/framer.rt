@@ -89,3 +89,6 @@ impl Framer {
         }
     }
 }
+
+#[cfg(test)]
+mod tests;

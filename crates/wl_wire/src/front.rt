@@ -54,3 +54,21 @@ pub fn all_messages(bytes: &[u8]) -> bool
         }
     }
 }
+
+#[cfg(test)]
+mod tests {
+    use super::*;
+
+    #[test]
+    fn whole_to_the_end(rt: HostRuntime) {
+        let two = [7, 0, 0, 0, 6, 0, 8, 0, 1, 0, 0, 0, 0, 0, 12, 0, 3, 0, 0, 0];
+        for (end, whole) in [(0, true), (7, false), (8, true), (16, false), (20, true)] {
+            assert_eq!(rt;
+                all_messages(two.split_at(end).0),
+                whole,
+                "up to byte {end}"
+            );
+        }
+        assert_eq!(rt; all_messages(&[1, 0, 0, 0, 0, 0, 10, 0, 3, 0]), false);
+    }
+}

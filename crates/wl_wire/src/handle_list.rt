@@ -147,3 +147,22 @@ impl PartialEq for HandleNumbers {
 impl Eq for HandleNumbers {
     ghost laws = { Prim.search (comparing, rules) };
 }
+
+#[cfg(test)]
+mod tests {
+    use super::*;
+    use std::test::Fail;
+
+    #[test]
+    fn grows_and_gives_back(rt: HostRuntime) -> Result<(), Fail> {
+        let mut list = HandleNumbers::new(rt.alloc());
+        list.push(5)?;
+        list.append(&[-1, i32::MAX])?;
+        assert_eq!(rt; list.as_slice(), [5, -1, i32::MAX].as_slice());
+        let copy = HandleNumbers::from_slice(rt.alloc(), list.as_slice())?;
+        assert_eq!(rt; list.clone()? == copy, true);
+        list.clear();
+        assert_eq!(rt; list == copy, false);
+        Ok(())
+    }
+}

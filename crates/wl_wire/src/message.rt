@@ -1,9 +1,13 @@
 // A whole message as its bytes.
 
-ghost use Rattle.std.specs.Prelude.{◌≡◌, ◌+◌, ◌≤◌, ◌↔◌, List, [], ◌∷◌, ◌++◌, length, IsTrue, OnOk, OnErr, IfOk};
+ghost use Rattle.std.specs.Prelude.{◌≡◌, ◌==◌, ◌+◌, ◌≤◌, length};
+ghost use Rattle.std.specs.Cmp.Lexicographic.{pointwise};
+ghost use Rattle.std.specs.Cmp.Rules.{comparing};
+ghost use Rattle.std.proofs.Common.{rules};
 ghost use Rattle.wl_wire.specs.Wire.{IsMessage, object_of, opcode_of, word_at};
 
 use crate::byte_list::Bytes;
+use std::alloc::AllocError;
 use std::marker::Model;
 
 /// A whole message of the Wayland protocol as its bytes, header included: 8 to 65,532 of them, a multiple of four,
@@ -47,6 +51,14 @@ impl Message {
         (word_from(self.bytes.as_slice(), 4) & 0xffff) as u16
     }
 
+    /// The bytes of the message as a list of their own. Takes no memory.
+    pub fn into_bytes(self) -> Bytes
+        ensures bytes { result ≡ self }
+        ensures whole { IsMessage result }
+    {
+        self.bytes
+    }
+
     /// All bytes of the message, header included.
     pub fn bytes(&self) -> &[u8]
         ensures bytes { result.now ≡ self.now }
@@ -54,6 +66,31 @@ impl Message {
     {
         self.bytes.as_slice()
     }
+}
+
+impl Clone for Message {
+    ghost is_clone = { λ message copy. copy ≡ message };
+
+    fn clone(&self) -> Result<Message, AllocError> {
+        match self.bytes.clone() {
+            Ok(bytes) => Ok(Message { bytes }),
+            Err(error) => Err(error),
+        }
+    }
+}
+
+impl PartialEq for Message {
+    ghost eq = { pointwise ◌==◌ };
+
+    ghost laws = { Prim.search (comparing, rules) };
+
+    fn eq(&self, other: &Message) -> bool {
+        self.bytes() == other.bytes()
+    }
+}
+
+impl Eq for Message {
+    ghost laws = { Prim.search (comparing, rules) };
 }
 
 /// The little-endian word that begins at a byte.

@@ -88,3 +88,23 @@ impl MessageList {
         }
     }
 }
+
+#[cfg(test)]
+mod tests {
+    use super::*;
+    use crate::framer::Framer;
+    use std::test::Fail;
+
+    #[test]
+    fn keeps_messages(rt: HostRuntime) -> Result<(), Fail> {
+        let mut framer = Framer::new(rt.alloc());
+        framer.feed(&[7, 0, 0, 0, 6, 0, 8, 0])?;
+        let mut list = MessageList::new(rt.alloc());
+        if let Some(message) = framer.next_message()? {
+            list.push(message.clone()?)?;
+        }
+        assert_eq!(rt; list.len(), 1);
+        assert_eq!(rt; list.into_vec()[0].object(), 7);
+        Ok(())
+    }
+}

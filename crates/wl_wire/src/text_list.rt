@@ -146,3 +146,22 @@ impl PartialEq for Text {
 impl Eq for Text {
     ghost laws = { Prim.search (comparing, rules) };
 }
+
+#[cfg(test)]
+mod tests {
+    use super::*;
+    use std::test::Fail;
+
+    #[test]
+    fn grows_and_gives_back(rt: HostRuntime) -> Result<(), Fail> {
+        let mut list = Text::new(rt.alloc());
+        list.push(b'a')?;
+        list.append(&[b'b', b'c'])?;
+        assert_eq!(rt; list.as_slice(), [b'a', b'b', b'c'].as_slice());
+        let copy = Text::from_slice(rt.alloc(), list.as_slice())?;
+        assert_eq!(rt; list.clone()? == copy, true);
+        list.clear();
+        assert_eq!(rt; list == copy, false);
+        Ok(())
+    }
+}

@@ -1,0 +1,25 @@
+//! Does the work of one part of the proxies many times over, as each line of its input says, so that a script can
+//! measure it. It is no part of the program.
+#![tactic(auto)]
+
+mod commits;
+mod jobs;
+mod words;
+
+use jobs::Job;
+use std::io;
+
+fn main(rt: HostRuntime) -> io::Result<()> {
+    for line in rt.lines(rt.alloc()) {
+        match Job::read(line?.as_str()) {
+            Some(job) => {
+                let sum = job.sum(rt.alloc())?;
+                println!(rt; "{sum}")?;
+            }
+            None => println!(rt;
+                "commits WIDTH HEIGHT TIMES, loads WORDS TIMES or copies WORDS TIMES"
+            )?,
+        }
+    }
+    Ok(())
+}

@@ -1,0 +1,7 @@
+pub mod Histories
+pub mod Seats
+pub mod Steps
+pub mod Meetings
+pub mod Known
+pub mod Rows
+pub mod Stretches

@@ -1,0 +1,4 @@
+pub mod History
+pub mod Views
+pub mod Pool
+pub mod Laws

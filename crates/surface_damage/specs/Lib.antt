@@ -1,0 +1,9 @@
+pub mod Areas
+pub mod DueBytes
+pub mod Filled
+pub mod History
+pub mod Images
+pub mod Pixels
+pub mod Statements
+pub mod Steps
+pub mod Views

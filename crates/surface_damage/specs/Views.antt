@@ -1,0 +1,15 @@
+-- An image as a surface shows it: where it lies, its scale and its transform.
+use Rattle.std.specs.Prelude.{ℕ, ◌<◌, Bool}
+use Rattle.surface_damage.specs.declared.rect.Damage.{Damage}
+use Rattle.surface_damage.specs.declared.view.View.{View}
+use Rattle.surface_damage.specs.Images.{LiesIn}
+use Rattle.surface_damage.specs.Pixels.{covers}
+
+-- the image lies in its file, and the scale is one
+pub record IsShown (view : View) : Type 0 where
+  pub lies : LiesIn view.image view.told
+  pub some : 0 < view.scale
+
+-- the damage covers the pixel
+abbrev pub covers_in : View → ℕ → ℕ → Damage → Bool
+covers_in view bx by damage = covers damage view.scale view.transform view.image.width view.image.height bx by

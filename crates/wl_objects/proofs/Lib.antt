@@ -1,0 +1,4 @@
+mod Parts
+mod Room
+mod Values
+mod Versions

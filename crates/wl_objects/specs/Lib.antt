@@ -1,0 +1,6 @@
+pub mod ArgValues
+pub mod Answering
+pub mod Entries
+pub mod ObjectLaws
+pub mod Registry
+pub mod Tracking

@@ -1,0 +1,6 @@
+pub mod Interfaces
+pub mod Laws
+pub mod Messages
+pub mod Places
+pub mod Rows
+pub mod Table

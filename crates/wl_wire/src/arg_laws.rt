@@ -1,0 +1,19 @@
+// Laws of the arguments: each function does nothing, and its clause is the law.
+
+ghost use Rattle.wl_wire.specs.ArgLaws.{ReadsInOneWay, GoodIsSpelled, BuiltIsRead, ReadIsBuilt};
+
+/// Bytes have no fault exactly where arguments spell them, and then one list of arguments alone does.
+pub fn args_are_unique()
+    ensures one_way { ReadsInOneWay }
+    ensures good { GoodIsSpelled }
+{}
+
+/// Arguments that fit a signature are read again from the message that is built of them.
+pub fn built_is_read()
+    ensures { BuiltIsRead }
+{}
+
+/// The message that is built of the arguments that were read is the message with zeros as padding.
+pub fn read_is_built()
+    ensures { ReadIsBuilt }
+{}
