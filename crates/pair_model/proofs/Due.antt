@@ -1,20 +1,17 @@
 -- With agreement, the frame that a side comes to on the connection that is up is not refused.
-use Rattle.std.proofs.Common.{◌≡◌, ◌≢◌, ℕ, ◌+◌, ◌-◌, ◌<◌, ◌≤◌, suc, cond, eqb, List, [], ◌∷◌, ◌++◌, Option, Some, None, Ok, Err, Bool, length, refl, sym, ap, subst, ◌∙◌, arith, append_assoc, length-append, inl, inr, ◌⊎◌}
+use Rattle.std.proofs.Common.{◌≡◌, ℕ, ◌-◌, suc, eqb, List, [], ◌∷◌, ◌++◌, Option, Some, None, Bool, length, refl, sym, ap, subst, ◌∙◌, arith, append_assoc, length-append, inl, inr}
 use Rattle.std.proofs.lemmas.Bool.{eq-eqb, ne_eqb, cond-true, cond-false}
-use Rattle.std.proofs.lemmas.List.{append-nil}
 use Rattle.std.specs.List.{AllByRecursion}
 use Rattle.transfer_frames.specs.declared.frame.Frame.{Frame}
-use Rattle.transfer_frames.specs.declared.cause.FrameCause.{FrameCause}
 use Rattle.transfer_frames.specs.Grammar.{role, IsFrame, spelling}
 use Rattle.transfer_frames.specs.Front.{front}
 use Rattle.transfer_frames.specs.Laws.{NoFrame}
 use Rattle.transfer_frames.proofs.FrontLaws.{none_begins}
 use Rattle.pair_model.specs.Lines.{Begins, Stop, Side, read_on, written_on}
-use Rattle.pair_model.specs.Wire.{spellings, counted, reply, Reads, Sees, Wire, Accepts, accepted_below, stop_on}
+use Rattle.pair_model.specs.Wire.{spellings, counted, reply, Reads, Sees, accepted_below, stop_on}
 use Rattle.pair_model.specs.LinkFaults.{Judge, link_fault, judge_of, has_closed, Next}
-use Rattle.pair_model.specs.Laws.{Counts}
 use Rattle.pair_model.specs.Steps.{Here, IsFront, At, Stands, side_stopped}
-use Rattle.pair_model.specs.StepLaws.{judge_here, AgreesWith, NextIsDue, NoFaultComes}
+use Rattle.pair_model.specs.StepLaws.{judge_here, NextIsDue, NoFaultComes}
 use Rattle.pair_model.proofs.Came.{no_bytes, Row, row_behind}
 use Rattle.pair_model.proofs.Rows.{spelling_some}
 use Rattle.pair_model.proofs.LastLine.{read_none}

@@ -1,7 +1,7 @@
 -- What is heard of one connection, frame by frame, and of one connection after another.
-use Rattle.std.proofs.Common.{◌≡◌, ◌≢◌, ℕ, ◌+◌, ◌-◌, ◌<◌, ◌≤◌, suc, List, [], ◌∷◌, ◌++◌, Option, Some, None, Ok, Err, max, drop, take, length, map, get_or, refl, sym, ap, subst, ◌∙◌, arith, append_assoc, length-append, length-drop, length-take, inl, inr, ◌⊎◌}
+use Rattle.std.proofs.Common.{◌≡◌, ℕ, ◌+◌, ◌-◌, ◌<◌, ◌≤◌, suc, List, [], ◌∷◌, ◌++◌, Some, None, Ok, Err, max, drop, take, length, map, get_or, refl, sym, ap, subst, ◌∙◌, arith, append_assoc, length-append, length-drop, length-take, inl, inr}
 use Rattle.std.proofs.lemmas.Bool.{cases_eq}
-use Rattle.std.proofs.lemmas.List.{append-nil, take-append-drop, map_more, drop_more, drop_all, take_all}
+use Rattle.std.proofs.lemmas.List.{append-nil, take-append-drop, map_more, drop_more, take_all}
 use Rattle.std.proofs.lemmas.List.Elements.{filter-append}
 use Rattle.std.specs.List.{AllByRecursion}
 use Rattle.transfer_frames.specs.declared.frame.Frame.{Frame}
@@ -11,7 +11,7 @@ use Rattle.transfer_frames.specs.Front.{front, Takes}
 use Rattle.transfer_frames.specs.Laws.{NoFrame}
 use Rattle.transfer_frames.proofs.FrontLaws.{front-spelled}
 use Rattle.pair_model.specs.declared.plain.PlainLine.{PlainLine}
-use Rattle.pair_model.specs.Lines.{Line, Side, read_on}
+use Rattle.pair_model.specs.Lines.{Line, read_on}
 use Rattle.pair_model.specs.Wire.{spellings, counted, told, is_counted, count_in, accepted_below, told_below, Reads, Sees}
 use Rattle.pair_model.specs.Plain.{line_of, Rising, HearsLine, Hears, side_with}
 use Rattle.pair_model.proofs.Refusals.{spellings_push}

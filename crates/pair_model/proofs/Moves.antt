@@ -1,5 +1,5 @@
 -- What each step does to what stands on the connection that is up.
-use Rattle.std.proofs.Common.{◌≡◌, ℕ, ◌+◌, ◌-◌, ◌<◌, ◌≤◌, suc, zero, cond, List, [], ◌∷◌, ◌++◌, Option, Some, None, Bool, true, false, max, drop, take, length, refl, sym, ap, subst, ◌∙◌, arith, append_assoc, length-append, length-drop, inl, inr, ◌⊎◌}
+use Rattle.std.proofs.Common.{◌≡◌, ℕ, ◌+◌, ◌<◌, ◌≤◌, cond, List, [], ◌∷◌, ◌++◌, Option, Some, None, Bool, true, false, max, drop, length, refl, sym, ap, subst, ◌∙◌, arith, append_assoc, length-append, length-drop, inl, inr}
 use Rattle.std.proofs.lemmas.Bool.{cases_lt}
 use Rattle.std.proofs.lemmas.List.{append-nil, drop-drop, drop-append-le, drop_all}
 use Rattle.std.proofs.lemmas.List.Elements.{filter-append, filter_map-append}
@@ -12,9 +12,9 @@ use Rattle.transfer_frames.specs.declared.frame.FrameRole.{FrameRole}
 use Rattle.transfer_frames.specs.declared.frame.FrameRole.TheVariants.{Counted, Tells, Greets}
 use Rattle.transfer_frames.specs.Grammar.{role, IsFrame, spelling}
 use Rattle.pair_model.specs.Lines.{Begins}
-use Rattle.pair_model.specs.Wire.{spellings, counted, acks, told, reply, first_count, received_in, count_in, is_counted, is_greeting, ack_in, NoGreeting, Rise, Wrote}
+use Rattle.pair_model.specs.Wire.{spellings, counted, acks, told, reply, first_count, received_in, count_in, is_counted, is_greeting, ack_in, Rise, Wrote}
 use Rattle.pair_model.specs.Quiet.{last_told}
-use Rattle.pair_model.specs.Steps.{Here, IsFront, InOrder, At, here_up, here_left, here_fed, here_read, here_ack, here_next, next_after, MayGreet, ends_one, still}
+use Rattle.pair_model.specs.Steps.{Here, IsFront, InOrder, At, here_up, here_left, here_fed, here_read, here_ack, here_next, next_after, MayGreet}
 use Rattle.pair_model.proofs.Rows.{spelling_long}
 use Rattle.pair_model.proofs.Came.{no_bytes}
 use Rattle.pair_model.proofs.Fronts.{begins_nil}

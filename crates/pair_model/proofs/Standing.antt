@@ -1,25 +1,24 @@
 -- What stands between steps is kept by each step, and gives what a side may have written and read.
-use Rattle.std.proofs.Common.{◌≡◌, ◌≢◌, ℕ, ◌+◌, ◌-◌, ◌<◌, ◌≤◌, suc, zero, cond, eqb, List, [], ◌∷◌, ◌++◌, Option, Some, None, Bool, true, false, not, nat_lt, ◌==◌, max, drop, take, length, refl, sym, ap, subst, ◌∙◌, arith, append_assoc, length-append, length-drop, inl, inr, ◌⊎◌}
+use Rattle.std.proofs.Common.{◌≡◌, ◌≢◌, ℕ, ◌-◌, ◌≤◌, suc, zero, cond, eqb, List, [], ◌∷◌, ◌++◌, Option, Some, None, Bool, true, false, not, nat_lt, ◌==◌, max, drop, take, length, refl, sym, ap, subst, ◌∙◌, arith, length-append, inl, inr, ◌⊎◌}
 use Rattle.std.proofs.lemmas.Bool.{eq-eqb, ne_eqb, cond-true, cond-false, cases_order, cases_eq, ltb-false}
 use Rattle.std.proofs.lemmas.List.{append-nil, take-append-drop, drop_all}
 use Rattle.std.specs.List.{AllByRecursion}
 use Rattle.std.specs.Option.{MatchOption}
 use Rattle.transfer_frames.specs.declared.frame.Frame.{Frame}
-use Rattle.transfer_frames.specs.declared.frame.Frame.TheVariants.{Restart, Ack}
+use Rattle.transfer_frames.specs.declared.frame.Frame.TheVariants.{Restart}
 use Rattle.transfer_frames.specs.declared.frame.FrameRole.{FrameRole}
 use Rattle.transfer_frames.specs.declared.frame.FrameRole.TheVariants.{Counted, Tells, Greets}
-use Rattle.transfer_frames.specs.Grammar.{role, IsFrame, spelling}
+use Rattle.transfer_frames.specs.Grammar.{role, IsFrame}
 use Rattle.std.specs.Str.{bytes_eq}
 use Rattle.transfer_frames.specs.declared.cause.FrameCause.TheVariants.{Token, Connection, RestartBehind, RestartAhead}
 use Rattle.transfer_frames.specs.Faults.{first_of}
 use Rattle.transfer_frames.specs.Laws.{NoFrame}
-use Rattle.pair_model.specs.Lines.{Line, Stop, Side, read_on, written_on}
-use Rattle.pair_model.specs.Wire.{spellings, counted, acks, told, reply, is_counted, count_in, Reads, Sees, Wire, Wrote, accepted_below, told_below, stop_on}
+use Rattle.pair_model.specs.Lines.{Stop, Side, read_on, written_on}
+use Rattle.pair_model.specs.Wire.{spellings, counted, acks, told, reply, Reads, Sees, Wire, Wrote, accepted_below, told_below, stop_on}
 use Rattle.pair_model.specs.LinkFaults.{Judge, link_fault}
 use Rattle.pair_model.specs.Quiet.{NoFront, last_told}
-use Rattle.pair_model.specs.Steps.{Here, At, InOrder, Past, Stands, Idle, MayGreet, on_last, with_written, with_read, side_up, here_up, side_sent, here_sent, here_left, side_fed, here_fed, side_read, here_read, here_ack, here_next, side_made, side_stopped}
+use Rattle.pair_model.specs.Steps.{Here, InOrder, Stands, Idle, MayGreet, on_last, with_written, with_read}
 use Rattle.pair_model.specs.StepLaws.{UpStands, SentStands, FedStands, ReadStands, AckStands, NextStands, MadeStands, MadeWire, StandsWire, StoppedWire, IdleNoFront}
-use Rattle.pair_model.proofs.Refusals.{counted_push}
 use Rattle.pair_model.proofs.Seen.{one_accepted, one_told}
 use Rattle.pair_model.proofs.LastLine.{on_last-push, written_last, read_last, written_before, read_before, written_none, read_none}
 use Rattle.pair_model.proofs.Moves.{at_up, at_sent, at_fed, at_read, at_ack, at_next, at_made, all_whole, no_part, wrote_made, wrote_here, told_push, length-counted_push}

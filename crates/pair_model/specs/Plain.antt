@@ -1,8 +1,8 @@
 -- What a side of a link, which is this project's own, heard from the other, as its lines tell it.
-use Rattle.std.specs.Prelude.{◌≡◌, ℕ, ◌≤◌, suc, List, [], ◌∷◌, ◌++◌, Option, None, max}
+use Rattle.std.specs.Prelude.{◌≡◌, ℕ, ◌≤◌, suc, List, [], ◌∷◌, ◌++◌, None, max}
 use Rattle.transfer_frames.specs.declared.frame.Frame.{Frame}
 use Rattle.pair_model.specs.declared.plain.PlainLine.{PlainLine}
-use Rattle.pair_model.specs.Lines.{Line, Side, read_on}
+use Rattle.pair_model.specs.Lines.{Line, Side}
 use Rattle.pair_model.specs.Wire.{counted, told, accepted_below, told_below, Reads, Sees}
 
 abbrev pub line_of : PlainLine → Line

@@ -1,5 +1,5 @@
 -- The laws of the steps of one side of a link, which is this project's own: each keeps what stands between steps, and what stands gives what a side may have written and read.
-use Rattle.std.specs.Prelude.{◌≡◌, ◌≢◌, Err, Bool, ℕ, ◌<◌, ◌≤◌, List, [], ◌∷◌, ◌++◌, Option, Some, None, true, drop, length}
+use Rattle.std.specs.Prelude.{◌≡◌, ◌≢◌, Err, Bool, ℕ, ◌<◌, ◌≤◌, List, [], ◌∷◌, ◌++◌, Some, None, true, drop, length}
 use Rattle.std.specs.List.{AllByRecursion}
 use Rattle.transfer_frames.specs.declared.frame.Frame.{Frame}
 use Rattle.transfer_frames.specs.declared.frame.Frame.TheVariants.{Restart, Ack}
@@ -12,7 +12,7 @@ use Rattle.pair_model.specs.Wire.{Wire, Accepts, is_counted}
 use Rattle.pair_model.specs.LinkFaults.{Judge, link_fault, has_closed}
 use Rattle.pair_model.specs.Laws.{Counts}
 use Rattle.pair_model.specs.Quiet.{NoFront}
-use Rattle.pair_model.specs.Steps.{Here, Stands, Idle, MayGreet, side_up, here_up, side_sent, here_sent, side_fed, here_fed, side_read, here_read, here_ack, here_next, side_made, side_stopped}
+use Rattle.pair_model.specs.Steps.{Here, Stands, Idle, side_up, here_up, side_sent, here_sent, side_fed, here_fed, side_read, here_read, here_ack, here_next, side_made, side_stopped}
 
 -- a connection comes up, with a number above all earlier ones
 abbrev pub UpStands : Type 0

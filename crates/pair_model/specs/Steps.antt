@@ -6,8 +6,8 @@ use Rattle.transfer_frames.specs.declared.frame.Frame.{Frame}
 use Rattle.transfer_frames.specs.declared.frame.Frame.TheVariants.{Restart, Ack}
 use Rattle.transfer_frames.specs.declared.frame.FrameRole.{FrameRole}
 use Rattle.transfer_frames.specs.declared.frame.FrameRole.TheVariants.{Counted, Tells, Greets}
-use Rattle.transfer_frames.specs.Grammar.{role, IsFrame, spelling}
-use Rattle.pair_model.specs.Lines.{Line, Stop, Side, written_on, read_on}
+use Rattle.transfer_frames.specs.Grammar.{IsFrame, spelling}
+use Rattle.pair_model.specs.Lines.{Line, Side, written_on, read_on}
 use Rattle.pair_model.specs.Wire.{spellings, counted, acks, told, reply, first_count, received_in, count_in, is_counted, NoGreeting, Rise, Reads, Wrote, accepted_below, told_below}
 use Rattle.pair_model.specs.Quiet.{last_told}
 

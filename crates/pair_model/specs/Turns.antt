@@ -1,5 +1,5 @@
 -- Which frame a side of a link, which is this project's own, sends next on a connection: RESTART first, nothing before the other's RESTART is read, then an ACK where more was accepted than was told, then the frames made from the other's received count on.
-use Rattle.std.specs.Prelude.{◌≡◌, ℕ, ◌+◌, ◌-◌, ◌^◌, nat_lt, cond, min, Bool, true, false, Option, Some, None, if◌then◌else◌}
+use Rattle.std.specs.Prelude.{ℕ, ◌+◌, ◌-◌, ◌^◌, nat_lt, min, true, false, Option, Some, None, if◌then◌else◌}
 use Rattle.pair_model.specs.declared.turns.Turn.{Turn}
 use Rattle.pair_model.specs.declared.turns.Choice.{Choice}
 use Rattle.pair_model.specs.declared.turns.Choice.TheVariants as choices
