@@ -4,11 +4,12 @@ ghost use Rattle.std.specs.Prelude.{◌<◌, length};
 
 use super::{DOWN, GET_REGISTRY, UP, client, message, send};
 use crate::Objects;
+use std::alloc::Global;
 use std::test::Fail;
 
 // Passes an event of the registry and compares what is shown of it.
 fn shows(
-    rt: &HostRuntime,
+    alloc: Global,
     objects: &mut Objects,
     opcode: u16,
     body: &[u8],
@@ -17,24 +18,27 @@ fn shows(
     requires sent { length body.now < 1000 }
     requires seen { length shown.now < 1000 }
 {
-    send(rt, objects, DOWN, 2, opcode, body)?;
-    let it = message(rt.alloc(), 2, opcode, body)?;
-    let want = message(rt.alloc(), 2, opcode, shown)?;
+    send(alloc, objects, DOWN, 2, opcode, body)?;
+    let it = message(alloc, 2, opcode, body)?;
+    let want = message(alloc, 2, opcode, shown)?;
     match objects.visible_event(it)? {
         Some(seen) => {
-            assert_eq!(rt; seen.bytes(), want.bytes());
-            Ok(())
+            if seen.bytes() == want.bytes() {
+                Ok(())
+            } else {
+                Err(Fail::new("other bytes"))
+            }
         }
         None => Err(Fail::new("hidden")),
     }
 }
 
 // Passes an event of the registry of which nothing is shown.
-fn hides(rt: &HostRuntime, objects: &mut Objects, opcode: u16, body: &[u8]) -> Result<(), Fail>
+fn hides(alloc: Global, objects: &mut Objects, opcode: u16, body: &[u8]) -> Result<(), Fail>
     requires { length body.now < 1000 }
 {
-    send(rt, objects, DOWN, 2, opcode, body)?;
-    let it = message(rt.alloc(), 2, opcode, body)?;
+    send(alloc, objects, DOWN, 2, opcode, body)?;
+    let it = message(alloc, 2, opcode, body)?;
     match objects.visible_event(it)? {
         Some(_) => Err(Fail::new("shown")),
         None => Ok(()),
@@ -62,40 +66,40 @@ const REMOVE_6: &[u8] = b"\x06\0\0\0";
 // A global that isn't carried is hidden with its end; one that is carried is shown at its version.
 #[test]
 fn hidden_globals(rt: HostRuntime) -> Result<(), Fail> {
-    let mut objects = client(&rt)?;
-    hides(&rt, &mut objects, 0, GLOBAL_5)?;
-    hides(&rt, &mut objects, 1, REMOVE_5)?;
-    shows(&rt, &mut objects, 0, GLOBAL_SEAT_6, SHOWN_SEAT_6)?;
-    shows(&rt, &mut objects, 1, REMOVE_6, REMOVE_6)?;
-    shows(&rt, &mut objects, 1, REMOVE_5, REMOVE_5)?;
+    let mut objects = client(rt.alloc())?;
+    hides(rt.alloc(), &mut objects, 0, GLOBAL_5)?;
+    hides(rt.alloc(), &mut objects, 1, REMOVE_5)?;
+    shows(rt.alloc(), &mut objects, 0, GLOBAL_SEAT_6, SHOWN_SEAT_6)?;
+    shows(rt.alloc(), &mut objects, 1, REMOVE_6, REMOVE_6)?;
+    shows(rt.alloc(), &mut objects, 1, REMOVE_5, REMOVE_5)?;
     Ok(())
 }
 
 // Lowering a version leaves all other bytes as they came, padding too.
 #[test]
 fn padding_stays(rt: HostRuntime) -> Result<(), Fail> {
-    let mut objects = client(&rt)?;
-    shows(&rt, &mut objects, 0, GLOBAL_OUTPUT_7, SHOWN_OUTPUT_7)
+    let mut objects = client(rt.alloc())?;
+    shows(rt.alloc(), &mut objects, 0, GLOBAL_OUTPUT_7, SHOWN_OUTPUT_7)
 }
 
 // A name is hidden, shown again, and gone.
 #[test]
 fn shown_again(rt: HostRuntime) -> Result<(), Fail> {
-    let mut objects = client(&rt)?;
-    hides(&rt, &mut objects, 0, GLOBAL_SURFACE_5)?;
-    shows(&rt, &mut objects, 0, GLOBAL_SEAT_5, GLOBAL_SEAT_5)?;
-    shows(&rt, &mut objects, 1, REMOVE_5, REMOVE_5)?;
+    let mut objects = client(rt.alloc())?;
+    hides(rt.alloc(), &mut objects, 0, GLOBAL_SURFACE_5)?;
+    shows(rt.alloc(), &mut objects, 0, GLOBAL_SEAT_5, GLOBAL_SEAT_5)?;
+    shows(rt.alloc(), &mut objects, 1, REMOVE_5, REMOVE_5)?;
     Ok(())
 }
 
 // What is hidden stays so where the registry is deleted and its id made anew.
 #[test]
 fn registry_made_anew(rt: HostRuntime) -> Result<(), Fail> {
-    let mut objects = client(&rt)?;
-    hides(&rt, &mut objects, 0, GLOBAL_5)?;
-    send(&rt, &mut objects, DOWN, 1, 1, b"\x02\0\0\0")?;
-    send(&rt, &mut objects, UP, 1, 1, GET_REGISTRY)?;
-    hides(&rt, &mut objects, 1, REMOVE_5)?;
-    shows(&rt, &mut objects, 1, REMOVE_5, REMOVE_5)?;
+    let mut objects = client(rt.alloc())?;
+    hides(rt.alloc(), &mut objects, 0, GLOBAL_5)?;
+    send(rt.alloc(), &mut objects, DOWN, 1, 1, b"\x02\0\0\0")?;
+    send(rt.alloc(), &mut objects, UP, 1, 1, GET_REGISTRY)?;
+    hides(rt.alloc(), &mut objects, 1, REMOVE_5)?;
+    shows(rt.alloc(), &mut objects, 1, REMOVE_5, REMOVE_5)?;
     Ok(())
 }
