@@ -1,4 +1,5 @@
 mod Parts
 mod Room
+mod Shown
 mod Values
 mod Versions

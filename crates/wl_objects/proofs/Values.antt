@@ -11,7 +11,7 @@ use Rattle.wl_wire.specs.declared.faults.WireFault.{WireFault}
 use Rattle.wl_wire.specs.SignatureForm.{SignatureForm}
 use Rattle.wl_tables.specs.declared.interface.Interface.{Interface}
 use Rattle.wl_wire.specs.Wire.{word_at}
-use Rattle.wl_wire.specs.Arguments.{IsWord, IsCounted, IsString, IsBind, IsArg, Spells}
+use Rattle.wl_wire.specs.Arguments.{IsString, IsBind, IsArg, Spells}
 use Rattle.wl_wire.specs.ArgFaults.{arg_size}
 use Rattle.wl_wire.proofs.FrontLemmas.{word_at-append}
 use Rattle.wl_wire.proofs.ArgShapes.{HasCounted, has_counted, arg-size}

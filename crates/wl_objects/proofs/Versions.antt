@@ -1,5 +1,5 @@
 -- A message with another last word is a message still.
-use Rattle.std.proofs.Common.{◌≡◌, ℕ, ◌+◌, ◌-◌, ◌≤◌, ◌%◌, List, [], ◌++◌, length, take, arith, sym, ap, ◌∙◌, length-append, Ok, Some}
+use Rattle.std.proofs.Common.{◌≡◌, ℕ, ◌-◌, ◌≤◌, ◌%◌, List, [], length, take, arith, sym, ap, ◌∙◌, length-append, Ok, Some}
 use Rattle.std.proofs.lemmas.List.{append-nil, length-take-le}
 use Rattle.wl_wire.specs.Wire.{first, size_of, IsMessage}
 use Rattle.wl_wire.specs.Building.{word_bytes}

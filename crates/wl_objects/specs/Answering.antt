@@ -1,5 +1,5 @@
 -- What a call that tracks a message answers, beside what the rules of a Wayland connection's objects say of it.
-use Rattle.std.specs.Prelude.{◌≡◌, List, Result, Ok, Err}
+use Rattle.std.specs.Prelude.{◌≡◌, Result, Ok, Err}
 use Rattle.wl_wire.specs.declared.faults.ObjectFault.{ObjectFault}
 use Rattle.wl_objects.specs.declared.passed.Passed.{Passed}
 use Rattle.wl_objects.specs.declared.passed.PassFault.{PassFault}

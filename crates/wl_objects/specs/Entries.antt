@@ -1,5 +1,5 @@
 -- The objects of a Wayland connection as a list of entries by rising ids (the chapter "Protocol and Model of Operation" of the protocol's document, its section on creating objects): what an id stands for, and what one message does to an entry.
-use Rattle.std.specs.Prelude.{ℕ, ◌≡◌, ◌<◌, ◌≤◌, nat_lt, nat_le, ◌&&◌, ◌||◌, not, if◌then◌else◌, List, [], ◌∷◌, length, Bool, true, false, Option, Some, None, option_map, option_and_then, is_some, Result, Ok, Err}
+use Rattle.std.specs.Prelude.{ℕ, nat_lt, nat_le, ◌&&◌, ◌||◌, not, if◌then◌else◌, List, [], ◌∷◌, length, Bool, true, false, Option, Some, None, option_map, option_and_then, is_some, Result, Ok, Err}
 use Rattle.std.specs.Ordering.{nat_cmp}
 use Rattle.std.specs.BTreeMap.{insert_entry, is_at}
 use Rattle.std.specs.Map.{lookup, set_value, remove_entry}

@@ -13,14 +13,12 @@ use Rattle.wl_wire.specs.declared.faults.WireFault.{WireFault}
 use Rattle.wl_wire.specs.SignatureForm.{SignatureForm}
 use Rattle.wl_wire.specs.Wire.{object_of, opcode_of}
 use Rattle.wl_wire.specs.Building.{word_bytes}
-use Rattle.wl_tables.specs.declared.interface.Interface.{Interface}
 use Rattle.wl_tables.specs.declared.interface.Interface.TheVariants.{WlRegistry}
 use Rattle.wl_tables.specs.declared.way.Way.{Way}
 use Rattle.wl_tables.specs.declared.way.Way.TheVariants.{Request, Event}
 use Rattle.wl_wire.specs.ArgFaults.{args_fault}
 use Rattle.wl_tables.specs.Messages.{signature}
 use Rattle.wl_tables.specs.Interfaces.{interface_of, max_version}
-use Rattle.wl_objects.specs.declared.entry.Entry.{Entry}
 use Rattle.wl_objects.specs.declared.registry_event.RegistryEvent.{RegistryEvent}
 use Rattle.wl_objects.specs.declared.registry_event.RegistryEvent.TheVariants.{Global, Remove, Other}
 use Rattle.wl_objects.specs.ArgValues.{args_in}
@@ -128,3 +126,15 @@ shown_then (Ok done) Event hidden message next =
 abbrev pub visible : ObjectsState → List (Way × List ℕ) → List (List ℕ)
 visible state [] = []
 visible state (it ∷ rest) = shown_then (step it.0 state.tracked it.1) it.0 state.hidden it.1 (λ next. visible next rest)
+
+-- goes on after one message with the state that it leaves, or stays where it doesn't pass
+abbrev pub after_then : Result Step ObjectFault → Way → ObjectsState → List ℕ → (ObjectsState → ObjectsState) → ObjectsState
+after_then (Err fault) way state message next = state
+after_then (Ok done) Request state message next = next (record { tracked = done.objects; hidden = state.hidden })
+after_then (Ok done) Event state message next =
+    next (record { tracked = done.objects; hidden = (view (record { tracked = done.objects; hidden = state.hidden }) message).hidden })
+
+-- the objects and the hidden pairs after messages, in the order in which they pass
+abbrev pub state_after : ObjectsState → List (Way × List ℕ) → ObjectsState
+state_after state [] = state
+state_after state (it ∷ rest) = after_then (step it.0 state.tracked it.1) it.0 state it.1 (λ next. state_after next rest)

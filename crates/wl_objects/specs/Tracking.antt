@@ -1,5 +1,5 @@
 -- How the messages of a Wayland connection make and destroy objects (the Wayland protocol's document, on creating objects, and `wl_display.delete_id` of wayland.xml): one message, and a list of them in the order in which they pass.
-use Rattle.std.specs.Prelude.{ℕ, ◌≡◌, ◌==◌, ◌&&◌, if◌then◌else◌, List, [], ◌∷◌, drop, filter_map, Bool, true, false, Option, Some, None, option_map, option_and_then, Result, Ok, Err}
+use Rattle.std.specs.Prelude.{ℕ, ◌==◌, if◌then◌else◌, List, [], ◌∷◌, drop, filter_map, Bool, true, false, Option, Some, None, option_map, option_and_then, Result, Ok, Err}
 use Rattle.std.specs.List.{slice_get}
 use Rattle.wl_wire.specs.declared.arguments.Arg.{Arg}
 use Rattle.wl_wire.specs.declared.arguments.Arg.TheVariants as arg
@@ -15,7 +15,6 @@ use Rattle.wl_tables.specs.declared.way.Way.{Way}
 use Rattle.wl_tables.specs.declared.way.Way.TheVariants.{Request, Event}
 use Rattle.wl_tables.specs.Interfaces.{interface_of, max_version}
 use Rattle.wl_tables.specs.Messages.{signature, new_interface}
-use Rattle.wl_objects.specs.declared.entry.Entry.{Entry}
 use Rattle.wl_objects.specs.declared.entry.NewObject.{NewObject}
 use Rattle.wl_objects.specs.declared.passed.Passed.{Passed}
 use Rattle.wl_objects.specs.declared.reading.Reading.{Reading}

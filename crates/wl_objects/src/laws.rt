@@ -1,9 +1,22 @@
-// Laws of tracking: the function does nothing, and its clauses are the laws.
+// Laws of tracking and of what is shown: each function does nothing, and its clauses are the laws.
 
-ghost use Rattle.wl_objects.specs.ObjectLaws.{TrackGoesOn, FrontIsTracked};
+ghost use Rattle.wl_objects.specs.ObjectLaws.{TrackGoesOn, FrontIsTracked, StateIsTracked, StateGoesOn, VisibleGoesOn, EventIsViewed, RequestIsNotShown};
 
 /// Messages that pass can be passed in parts.
 pub fn tracked_in_parts()
     ensures goes_on { TrackGoesOn }
     ensures front { FrontIsTracked }
+{}
+
+/// What is shown of messages that pass is shown in parts, and the state after them is that of their parts.
+pub fn shown_in_parts()
+    ensures tracked { StateIsTracked }
+    ensures state { StateGoesOn }
+    ensures visible { VisibleGoesOn }
+{}
+
+/// What is shown of messages that pass is shown one by one: of an event what its view shows, of a request nothing.
+pub fn shown_one_by_one()
+    ensures event { EventIsViewed }
+    ensures request { RequestIsNotShown }
 {}

@@ -346,3 +346,5 @@ fn deleted_display(rt: HostRuntime) -> Result<(), Fail> {
 }
 
 mod registry;
+mod room;
+mod rows;

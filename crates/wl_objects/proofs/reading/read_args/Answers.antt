@@ -1,7 +1,6 @@
-use Rattle.std.proofs.Common.{◌≡◌, drop}
+use Rattle.std.proofs.Common.{drop}
 use Rattle.wl_wire.specs.Wire.{opcode_of}
 use Rattle.wl_wire.specs.ArgFaults.{args_fault}
-use Rattle.wl_objects.specs.Tracking.{read_by}
 use Rattle.wl_objects.proofs.Values.{read-good}
 use Rattle.wl_objects.proofs.reading.read_args.Goals as goal
 

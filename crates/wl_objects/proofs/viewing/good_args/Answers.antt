@@ -1,4 +1,4 @@
-use Rattle.std.proofs.Common.{◌≡◌, drop}
+use Rattle.std.proofs.Common.{drop}
 use Rattle.wl_wire.specs.ArgFaults.{args_fault}
 use Rattle.wl_objects.proofs.Values.{good-args}
 use Rattle.wl_objects.proofs.Room.{room-for-uint}

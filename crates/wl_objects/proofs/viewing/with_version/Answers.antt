@@ -1,4 +1,4 @@
-use Rattle.std.proofs.Common.{◌≡◌, ℕ, ◌-◌, List, length, take, ap, ◌∙◌, subst}
+use Rattle.std.proofs.Common.{◌≡◌, ◌-◌, length, take, ap, ◌∙◌, subst}
 use Rattle.wl_wire.specs.Building.{word_bytes}
 use Rattle.wl_wire.specs.Wire.{IsMessage}
 use Rattle.wl_objects.proofs.Versions.{first-with_version}
