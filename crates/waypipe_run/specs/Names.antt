@@ -9,8 +9,8 @@ use Rattle.wp_outside.specs.declared.kinds.Side.{Side}
 use Rattle.wp_outside.specs.declared.kinds.Side.TheVariants as side
 use Rattle.transfer_frames.specs.declared.cause.FrameCause.{FrameCause}
 use Rattle.transfer_frames.specs.declared.cause.FrameCause.TheVariants as frame
-use Rattle.waypipe_run.specs.declared.causes.ScriptCause.{ScriptCause}
-use Rattle.waypipe_run.specs.declared.causes.ScriptCause.TheVariants as script
+use Rattle.script_lang.specs.declared.causes.ScriptCause.{ScriptCause}
+use Rattle.script_lang.specs.declared.causes.ScriptCause.TheVariants as script
 use Rattle.waypipe_run.specs.declared.causes.PeerCause.{PeerCause}
 use Rattle.waypipe_run.specs.declared.causes.PeerCause.TheVariants as peer
 use Rattle.waypipe_run.specs.declared.status.Reader.{Reader}
@@ -25,6 +25,7 @@ script_name script.Form = codes "Form"
 script_name script.Number = codes "Number"
 script_name script.Message = codes "Message"
 script_name script.Name = codes "Name"
+script_name script.NotBuilt = codes "NotBuilt"
 
 abbrev pub wire_name : WireFault → List ℕ
 wire_name wire.SizeSmall = codes "SizeSmall"

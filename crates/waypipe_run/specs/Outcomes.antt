@@ -1,77 +1,101 @@
--- What a replay comes to: the sentences that hold of it at its end. The messages are those of the Wayland wire format,
--- cut from all bytes that the application put on its wire.
-use Rattle.std.specs.Prelude.{◌≡◌, ◌≢◌, ℕ, Bool, true, false, ◌||◌, if◌then◌else◌, List, [], ◌∷◌, ◌++◌, Some, None, Ok, length}
-use Rattle.wl_wire.specs.declared.faults.WireFault.{WireFault}
-use Rattle.wl_wire.specs.Wire.{cut, cut_fault}
-use Rattle.wp_outside.specs.Lines.{Line, IsFront, fresh_line, fresh_lane}
-use Rattle.transfer_frames.specs.Front.{front}
-use Rattle.waypipe_run.specs.Grammar.{Act, Put, Take, Connect, Up, Drain}
-use Rattle.waypipe_run.specs.Rows.{frames_of, AreMessages}
+-- What a replay comes to: its status, its last line, and the sentences that hold of it, over the bytes of the script and what the link tells. The messages are those of the Wayland protocol.
+use Rattle.std.specs.Prelude.{◌≡◌, ◌≢◌, ℕ, ◌+◌, ◌<◌, if◌then◌else◌, List, [], ◌∷◌, ◌++◌, Option, Some, None, Result, Ok, Err, length}
+use Rattle.transfer_frames.specs.Laws.{NoFrame}
+use Rattle.transfer_frames.specs.declared.cause.FrameCause.{FrameCause}
+use Rattle.transfer_frames.specs.declared.cause.FrameCause.TheVariants.{PeerMessage, RidCount}
+use Rattle.wl_objects.specs.Registry.{first_state, visible}
+use Rattle.wl_tables.specs.declared.way.Way.TheVariants.{Request, Event}
+use Rattle.wp_outside.specs.Lines.{Line, IsFront, fresh_line}
+use Rattle.wp_outside.specs.declared.kinds.Side.{Side}
+use Rattle.wp_outside.specs.declared.kinds.Side.TheVariants as side
+use Rattle.script_lang.specs.declared.steps.Step.{Step}
+use Rattle.replay_model.specs.Halves.{Half, Pair, half_of, taken_by, given_by, heard_way}
+use Rattle.replay_model.specs.Headline.{Holds, EndsWith}
+use Rattle.replay_model.specs.Link.{Tells}
+use Rattle.replay_model.specs.Orders.{Allowed}
+use Rattle.replay_model.specs.Passing.{received_in}
+use Rattle.replay_model.specs.Rows.{frames_of}
+use Rattle.replay_model.specs.Runs.{Runs}
+use Rattle.replay_model.specs.declared.ends.End.{End}
+use Rattle.replay_model.specs.declared.ends.End.TheVariants as ends
+use Rattle.replay_model.specs.declared.ends.Fault.{Fault}
+use Rattle.replay_model.specs.declared.ends.Fault.TheVariants as faults
+use Rattle.replay_model.specs.declared.ends.Refusal.{Refusal}
+use Rattle.replay_model.specs.declared.ends.Refusal.TheVariants as refusals
+use Rattle.waypipe_run.specs.Report.{Counted}
+use Rattle.waypipe_run.specs.Texts.{drained_text, stopped_text, peer_text, frame_text}
+use Rattle.waypipe_run.specs.declared.causes.PeerCause.{PeerCause}
+use Rattle.waypipe_run.specs.declared.causes.PeerCause.TheVariants as peer
+use Rattle.waypipe_run.specs.declared.status.Reader.{Reader}
+use Rattle.waypipe_run.specs.declared.status.Reader.TheVariants as reader
+use Rattle.waypipe_run.specs.declared.status.Status.{Status}
+use Rattle.waypipe_run.specs.declared.status.Status.TheVariants as status
 
--- nothing was opened on the link
-abbrev pub NothingOpened : (ℕ → Line) → Type 0
-NothingOpened line = (connection : ℕ) → (line connection).was_opened ≡ false
+-- a refusal as the cause that is answered for what a peer sends, and for a frame
+abbrev pub peer_cause : Refusal → PeerCause
+peer_cause (refusals.Object fault) = peer.Object fault
+peer_cause refusals.HandleMissing = peer.HandleMissing
 
--- all bytes that a script's lines put on the application's wire
-abbrev pub put_bytes : List Act → List ℕ
-put_bytes [] = []
-put_bytes (Put bytes ∷ acts) = bytes ++ put_bytes acts
-put_bytes (Take count ∷ acts) = put_bytes acts
-put_bytes (Connect ∷ acts) = put_bytes acts
-put_bytes (Up count ∷ acts) = put_bytes acts
-put_bytes (Drain count ∷ acts) = put_bytes acts
+abbrev pub frame_cause : Refusal → FrameCause
+frame_cause (refusals.Object fault) = PeerMessage fault
+frame_cause refusals.HandleMissing = RidCount
 
--- whether a line opens the connection
-abbrev pub connects : List Act → Bool
-connects [] = false
-connects (Connect ∷ acts) = true
-connects (Put bytes ∷ acts) = connects acts
-connects (Take count ∷ acts) = connects acts
-connects (Up count ∷ acts) = connects acts
-connects (Drain count ∷ acts) = connects acts
+abbrev pub reader_of : Side → Reader
+reader_of side.Near = reader.Near
+reader_of side.Far = reader.Far
 
--- whether there is a message
-abbrev pub is_some_message : List (List ℕ) → Bool
-is_some_message [] = false
-is_some_message (message ∷ messages) = true
+-- the status of a replay: a peer's message is named by how many were taken before it, a frame by how many bytes stand before it
+abbrev pub status_of : Pair → End → Status
+status_of pair ends.Drained = status.Done
+status_of pair ends.Stopped = status.Done
+status_of pair (ends.Fault (faults.Peer beside cause)) =
+    status.Peer beside (length (taken_by beside (half_of beside pair))) (peer_cause cause)
+status_of pair (ends.Fault (faults.Frame beside cause)) =
+    status.Frame (reader_of beside) 1 (length (frames_of (given_by beside (half_of beside pair)))) (frame_cause cause)
 
--- what the link tells: connection 1 alone, and on it nothing but bytes that go up
-pub record GoesUp (line : ℕ → Line) : Type 0 where
-  pub down : (line 1).down ≡ fresh_lane
-  pub others : (connection : ℕ) → connection ≢ 1 → line connection ≡ fresh_line
+-- its last line
+abbrev pub last_line : Pair → End → List ℕ
+last_line pair ends.Drained = drained_text
+last_line pair ends.Stopped = stopped_text
+last_line pair (ends.Fault (faults.Peer beside cause)) =
+    peer_text beside (length (taken_by beside (half_of beside pair))) (peer_cause cause)
+last_line pair (ends.Fault (faults.Frame beside cause)) =
+    frame_text (reader_of beside) 1 (length (frames_of (given_by beside (half_of beside pair)))) (frame_cause cause)
 
--- these messages were decoded from bytes: one frame each, in order, and then a rest with no whole frame in front
-pub record DecodedFrom (bytes : List ℕ) (messages : List (List ℕ)) : Type 0 where
-  pub whole : AreMessages messages
+-- what is reported of a peer and the proxy beside it
+abbrev pub counted_of : Side → Pair → Counted
+counted_of beside pair = record {
+  sent = length (taken_by beside (half_of beside pair));
+  received = received_in (heard_way beside) (half_of beside pair).order;
+}
+
+abbrev pub connections_of : Pair → ℕ
+connections_of pair = if pair.connected then 1 else 0
+
+-- the bytes are the frames of these messages, each once and in order, and a rest
+pub record Decoded (bytes : List ℕ) (messages : List (List ℕ)) : Type 0 where
   pub rest : List ℕ
   pub row : bytes ≡ frames_of messages ++ rest
-  pub part : front rest ≡ Ok None
 
--- a replay that went through: the near side took every message, and the compositor received each, once and in order
-pub record WentThrough (acts : List Act) (line : ℕ → Line) (connections sent : ℕ) (received : List (List ℕ)) : Type 0 where
-  -- no size of a message is at fault
-  pub fine : cut_fault (put_bytes acts) ≡ None
-  -- the compositor received the messages that the application put on its wire
-  pub each_once : received ≡ cut (put_bytes acts)
-  pub all_taken : sent ≡ length (cut (put_bytes acts))
-  -- what the link tells as pushed is one frame for each message, in order
-  pub pushed : (line 1).up.pushed ≡ frames_of (cut (put_bytes acts))
-  -- what was received was decoded from what the link tells as pulled
-  pub decoded : DecodedFrom (line 1).up.pulled received
-  pub goes_up : GoesUp line
-  -- the connection was opened by a line, or where there was a message
-  pub counted : connections ≡ (if connects acts || is_some_message (cut (put_bytes acts)) then 1 else 0)
-  pub opened : connections ≡ (if (line 1).was_opened then 1 else 0)
+-- what the link tells of a replay: connection 1 alone; what was pushed up is a front of the frames of the messages that the application's proxy took, and what was pushed down of those that are shown of the compositor's; what the peers received was decoded from what was pulled
+pub record OverLink (pair : Pair) (line : ℕ → Line) : Type 0 where
+  pub pushed_up : IsFront (line 1).up.pushed (frames_of (taken_by side.Near pair.near))
+  pub pushed_down : IsFront (line 1).down.pushed (frames_of (visible first_state pair.far.order))
+  pub pulled_up : Decoded (line 1).up.pulled (given_by side.Far pair.far)
+  pub pulled_down : Decoded (line 1).down.pulled (given_by side.Near pair.near)
+  pub opened : (line 1).was_opened ≡ pair.connected
+  pub others : (connection : ℕ) → connection ≢ 1 → line connection ≡ fresh_line
 
--- a replay that met a size at fault: the near side took the messages before it, and the compositor received some of them
-pub record StoppedAt (fault : WireFault) (acts : List Act) (line : ℕ → Line) (connections sent : ℕ) (received : List (List ℕ)) : Type 0 where
-  -- the cut of all bytes stops at this size
-  pub met : cut_fault (put_bytes acts) ≡ Some fault
-  pub all_before : sent ≡ length (cut (put_bytes acts))
-  -- what the link tells as pushed is a front of the frames of the messages before it
-  pub pushed : IsFront (line 1).up.pushed (frames_of (cut (put_bytes acts)))
-  -- what was received was decoded from what the link tells as pulled
-  pub decoded : DecodedFrom (line 1).up.pulled received
-  pub all_pulled : (line 1).up.pulled ≡ (line 1).up.pushed
-  pub goes_up : GoesUp line
-  pub opened : connections ≡ (if (line 1).was_opened then 1 else 0)
+-- A replay of a script, and all that is claimed of it.
+pub record Ran (steps : List Step) (pair : Pair) (end : End) (line : ℕ → Line) : Type 0 where
+  -- the script's lines did this, step by step
+  pub runs : Runs steps pair end
+  -- each peer received a front of what the other put on its wire, each message once, the application through the registry view
+  pub holds : Holds steps pair
+  -- how it ended says what else it came to: all of it where it drained, the message that was refused where a fault came
+  pub came : EndsWith end steps pair
+  -- the messages passed in allowed orders
+  pub allowed : Allowed steps pair.near.order pair.far.order
+  -- the link tells just what went over it
+  pub tells : Tells pair line
+  pub over_link : OverLink pair line

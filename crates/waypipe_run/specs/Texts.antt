@@ -1,7 +1,7 @@
 -- The last lines of what the program prints, one for each status. This project's own.
 use Rattle.std.specs.Prelude.{ℕ, List, [], ◌∷◌, ◌++◌, codes, decimal}
 use Rattle.wp_outside.specs.declared.kinds.Side.{Side}
-use Rattle.waypipe_run.specs.declared.causes.ScriptCause.{ScriptCause}
+use Rattle.script_lang.specs.declared.causes.ScriptCause.{ScriptCause}
 use Rattle.waypipe_run.specs.declared.causes.PeerCause.{PeerCause}
 use Rattle.waypipe_run.specs.declared.causes.Limit.{Limit}
 use Rattle.transfer_frames.specs.declared.cause.FrameCause.{FrameCause}
@@ -16,6 +16,9 @@ read_failed_text = codes "read failed\n"
 
 unfoldable pub drained_text : List ℕ
 drained_text = codes "drained\n"
+
+unfoldable pub stopped_text : List ℕ
+stopped_text = codes "stopped\n"
 
 unfoldable pub script_text : ℕ → ScriptCause → List ℕ
 script_text line cause = codes "script line " ++ (decimal line ++ (codes ": " ++ (script_name cause ++ (10 ∷ []))))

@@ -1,6 +1,6 @@
 -- What the program's call owes, status by status: over the bytes that were read, the bytes that were written and what the
 -- link tells. The messages are those of the Wayland wire format.
-use Rattle.std.specs.Prelude.{◌≡◌, ◌⊎◌, ℕ, ◌+◌, ◌<◌, ◌≤◌, List, [], ◌∷◌, ◌++◌, Option, Some, None, Result, Ok, Err, length, String}
+use Rattle.std.specs.Prelude.{◌≡◌, ◌⊎◌, ℕ, ◌+◌, ◌<◌, ◌≤◌, Bool, List, [], ◌∷◌, ◌++◌, Option, Some, None, Result, Ok, Err, length, String}
 use Rattle.std.specs.List.{flat_map}
 use Rattle.std.specs.declared.alloc.Global.{Global}
 use Rattle.transfer_frames.specs.Grammar.{spelling}
@@ -8,30 +8,31 @@ use Rattle.transfer_frames.specs.Front.{front}
 use Rattle.transfer_frames.specs.declared.frame.Frame.{Frame}
 use Rattle.transfer_frames.specs.declared.cause.FrameCause.{FrameCause}
 use Rattle.frame_stream.specs.Listing.{Lists, text_of}
-use Rattle.wl_wire.specs.declared.faults.WireFault.{WireFault}
-use Rattle.wl_wire.specs.declared.faults.ObjectFault.TheVariants.{Wire}
+use Rattle.script_lang.specs.Grammar.{steps_of}
+use Rattle.script_lang.specs.declared.causes.ScriptCause.{ScriptCause}
+use Rattle.script_lang.specs.declared.causes.ScriptCause.TheVariants.{NotBuilt}
+use Rattle.script_lang.specs.declared.causes.ScriptRead.TheVariants as read
+use Rattle.script_lang.specs.declared.steps.Step.{Step}
+use Rattle.replay_model.specs.Halves.{Pair}
+use Rattle.replay_model.specs.declared.ends.End.{End}
 use Rattle.wp_outside.specs.Counts.{Rose}
 use Rattle.wp_outside.specs.Lines.{Line, Same}
 use Rattle.wp_outside.specs.Pieces.{IfTold, held_with}
-use Rattle.wp_outside.specs.declared.kinds.Side.{Side}
-use Rattle.wp_outside.specs.declared.kinds.Side.TheVariants.{Near}
-use Rattle.waypipe_run.specs.Grammar.{Act}
+use Rattle.wp_outside.specs.declared.kinds.Side.TheVariants as side
+use Rattle.waypipe_run.specs.Built.{first_unbuilt}
 use Rattle.waypipe_run.specs.Moving.{Took, MOST_INPUT, TookNoMore, WroteFront}
-use Rattle.waypipe_run.specs.Outcomes.{WentThrough, StoppedAt}
-use Rattle.waypipe_run.specs.Pieces.{lines}
-use Rattle.waypipe_run.specs.Reading.{acts}
+use Rattle.waypipe_run.specs.Outcomes.{Ran, status_of, last_line, connections_of, counted_of}
 use Rattle.waypipe_run.specs.Report.{report}
-use Rattle.waypipe_run.specs.Texts.{usage_text, read_failed_text, drained_text, script_text, peer_text, limit_text, frame_text, rest_text}
-use Rattle.waypipe_run.specs.Words.{IsReplay, IsFrames, IsCommand}
-use Rattle.waypipe_run.specs.declared.causes.Limit.TheVariants.{Input}
+use Rattle.waypipe_run.specs.Texts.{usage_text, read_failed_text, script_text, limit_text, frame_text, rest_text}
+use Rattle.waypipe_run.specs.Words.{IsReplay, IsFrames, IsCommand, Asks}
+use Rattle.waypipe_run.specs.declared.causes.Limit.TheVariants.{Input, Lines}
 use Rattle.waypipe_run.specs.declared.causes.Limit.{Limit}
-use Rattle.waypipe_run.specs.declared.causes.PeerCause.{PeerCause}
-use Rattle.waypipe_run.specs.declared.causes.PeerCause.TheVariants.{Object}
-use Rattle.waypipe_run.specs.declared.causes.ScriptCause.{ScriptCause}
 use Rattle.waypipe_run.specs.declared.status.Reader.{Reader}
 use Rattle.waypipe_run.specs.declared.status.Reader.TheVariants as reader
 use Rattle.waypipe_run.specs.declared.status.Status.{Status}
 use Rattle.waypipe_run.specs.declared.status.Status.TheVariants as status
+use Rattle.waypipe_run.specs.declared.words.Command.{Command}
+use Rattle.waypipe_run.specs.declared.words.Command.TheVariants.{Replay, Frames}
 
 -- what an input tells: the bytes that are left, and how many reads failed
 pub record InputState : Type 0 where
@@ -50,46 +51,64 @@ pub record ReadWhole (old new : InputState) (bytes : List ℕ) : Type 0 where
   pub no_fault : new.faults ≡ old.faults
   pub bounded : length bytes ≤ MOST_INPUT
 
--- the report of a replay that went through
-pub record Ran (script : List Act) (line : ℕ → Line) (text : List ℕ) : Type 0 where
-  pub connections : ℕ
-  pub sent : ℕ
-  pub received : List (List ℕ)
-  pub went : WentThrough script line connections sent received
-  pub printed : text ≡ report connections sent received ++ drained_text
+-- what a replay prints, and the status that it answers
+pub record Reported (texts : Bool) (steps : List Step) (answer : Status) (line : ℕ → Line) (text : List ℕ) : Type 0 where
+  pub pair : Pair
+  pub end : End
+  pub ran : Ran steps pair end line
+  pub answered : answer ≡ status_of pair end
+  pub printed : text ≡ report texts (connections_of pair) (counted_of side.Near pair) (counted_of side.Far pair) ++ last_line pair end
 
--- the report of a replay that met a size at fault, and the line that says which message has it
-pub record Stopped (side : Side) (index : ℕ) (cause : PeerCause) (script : List Act) (line : ℕ → Line) (text : List ℕ) : Type 0 where
-  pub fault : WireFault
-  pub beside : side ≡ Near
-  pub named : cause ≡ Object (Wire fault)
-  pub connections : ℕ
-  pub received : List (List ℕ)
-  pub stopped : StoppedAt fault script line connections index received
-  pub printed : text ≡ report connections index received ++ peer_text side index cause
+-- the lines of a text are this script, and all of them are run
+pub record IsScript (bytes : List ℕ) (steps : List Step) : Type 0 where
+  pub spelled : steps_of bytes ≡ Ok steps
+  pub built : first_unbuilt steps ≡ None
 
--- what a replay prints
-abbrev pub TellsReplay : Status → List Act → (ℕ → Line) → List ℕ → Type 0
-TellsReplay status.Done script line text = Ran script line text
-TellsReplay (status.Peer side index cause) script line text = Stopped side index cause script line text
-TellsReplay other script line text = ⊥
+-- a text that is a script is replayed
+pub record IsReplayed (texts : Bool) (answer : Status) (bytes : List ℕ) (after : ℕ → Line) (text : List ℕ) : Type 0 where
+  pub steps : List Step
+  pub script : IsScript bytes steps
+  pub reported : Reported texts steps answer after text
 
--- the lines of a text are this script
-pub record IsScript (bytes : List ℕ) (script : List Act) : Type 0 where
-  pub spelled : acts 1 (lines bytes) ≡ Ok script
+-- The line of a text for which it is not replayed: the first that is no line of a script, with its first cause; or, of a script, the first that is not run.
+abbrev pub Refused : List ℕ → ℕ → ScriptCause → Type 0
+Refused bytes line cause =
+    (steps_of bytes ≡ Err (read.Fault line cause))
+    ⊎ ((steps : List Step) × (steps_of bytes ≡ Ok steps) × (first_unbuilt steps ≡ Some line) × (cause ≡ NotBuilt))
 
--- the first line of a text that is no line of a script, and the cause; nothing went over the link
-pub record IsNoScript (bytes : List ℕ) (line : ℕ) (cause : ScriptCause) (before after : ℕ → Line) (text : List ℕ) : Type 0 where
-  pub first : acts 1 (lines bytes) ≡ Err (line, cause)
+-- such a text; nothing went over the link
+pub record IsNoScript (line : ℕ) (cause : ScriptCause) (bytes : List ℕ) (before after : ℕ → Line) (text : List ℕ) : Type 0 where
+  pub refused : Refused bytes line cause
   pub untouched : Same before after
   pub printed : text ≡ script_text line cause
 
+-- a text of too many lines
+pub record IsTooLong (bytes : List ℕ) (before after : ℕ → Line) (text : List ℕ) : Type 0 where
+  pub above : steps_of bytes ≡ Err read.Lines
+  pub untouched : Same before after
+  pub printed : text ≡ limit_text Lines
+
+-- a limit of a script
+abbrev pub TellsLimit : Limit → List ℕ → (ℕ → Line) → (ℕ → Line) → List ℕ → Type 0
+TellsLimit Lines bytes before after text = IsTooLong bytes before after text
+TellsLimit other bytes before after text = ⊥
+
 -- what a text is answered with
-abbrev pub TellsText : Status → List ℕ → (ℕ → Line) → (ℕ → Line) → List ℕ → Type 0
-TellsText status.Done bytes before after text = (script : List Act) × IsScript bytes script × Ran script after text
-TellsText (status.Peer side index cause) bytes before after text = (script : List Act) × IsScript bytes script × Stopped side index cause script after text
-TellsText (status.Script line cause) bytes before after text = IsNoScript bytes line cause before after text
-TellsText other bytes before after text = ⊥
+abbrev pub TellsText : Bool → Status → List ℕ → (ℕ → Line) → (ℕ → Line) → List ℕ → Type 0
+TellsText texts status.Done bytes before after text = IsReplayed texts status.Done bytes after text
+TellsText texts (status.Peer beside index cause) bytes before after text = IsReplayed texts (status.Peer beside index cause) bytes after text
+TellsText texts (status.Frame whose connection place cause) bytes before after text = IsReplayed texts (status.Frame whose connection place cause) bytes after text
+TellsText texts (status.Script line cause) bytes before after text = IsNoScript line cause bytes before after text
+TellsText texts (status.Limit which) bytes before after text = TellsLimit which bytes before after text
+TellsText texts other bytes before after text = ⊥
+
+-- what a script is answered with: the first line that is not run, or its replay
+abbrev pub TellsBuilt : Option ℕ → Bool → Status → List Step → (ℕ → Line) → (ℕ → Line) → List ℕ → Type 0
+TellsBuilt (Some line) texts answer steps before after text = (answer ≡ status.Script line NotBuilt) × Same before after × (text ≡ script_text line NotBuilt)
+TellsBuilt None texts answer steps before after text = Reported texts steps answer after text
+
+abbrev pub TellsScript : Bool → Status → List Step → (ℕ → Line) → (ℕ → Line) → List ℕ → Type 0
+TellsScript texts answer steps before after text = TellsBuilt (first_unbuilt steps) texts answer steps before after text
 
 -- words that are no command: nothing is read
 pub record IsUsage (words : List (String Global)) (old new : InputState) (before after : ℕ → Line) (text : List ℕ) : Type 0 where
@@ -100,7 +119,8 @@ pub record IsUsage (words : List (String Global)) (old new : InputState) (before
 
 -- a read failed
 pub record IsReadFault (words : List (String Global)) (old new : InputState) (before after : ℕ → Line) (text : List ℕ) : Type 0 where
-  pub command : IsCommand words
+  pub command : Command
+  pub asks : Asks command words
   pub rose : Rose old.faults new.faults
   pub one_more : TookNoMore old.left new.left
   pub untouched : Same before after
@@ -108,7 +128,8 @@ pub record IsReadFault (words : List (String Global)) (old new : InputState) (be
 
 -- there are more bytes than the program reads
 pub record IsLimit (which : Limit) (words : List (String Global)) (old new : InputState) (before after : ℕ → Line) (text : List ℕ) : Type 0 where
-  pub command : IsCommand words
+  pub command : Command
+  pub asks : Asks command words
   pub input : which ≡ Input
   pub above : IfTold old.left (λ left. MOST_INPUT < length left)
   pub one_more : TookNoMore old.left new.left
@@ -118,10 +139,11 @@ pub record IsLimit (which : Limit) (words : List (String Global)) (old new : Inp
 
 -- a text that was read whole is answered
 pub record IsAnswer (answer : Status) (words : List (String Global)) (old new : InputState) (before after : ℕ → Line) (text : List ℕ) : Type 0 where
-  pub command : IsReplay words
+  pub texts : Bool
+  pub command : IsReplay texts words
   pub bytes : List ℕ
   pub read : ReadWhole old new bytes
-  pub told : TellsText answer bytes before after text
+  pub told : TellsText texts answer bytes before after text
 
 -- the lines of the frames of a stream at whose end no fault stands, and the count of the bytes behind them
 pub record Listed (bytes text : List ℕ) : Type 0 where
@@ -148,6 +170,11 @@ TellsStream status.Done bytes text = Listed bytes text
 TellsStream (status.Frame whose connection place cause) bytes text = ListedFault whose connection place cause bytes text
 TellsStream other bytes text = ⊥
 
+-- what the bytes of the input are answered with; nothing goes over the link for a stream of frames
+abbrev pub TellsBytes : Command → Status → List ℕ → (ℕ → Line) → (ℕ → Line) → List ℕ → Type 0
+TellsBytes (Replay texts) answer bytes before after text = TellsText texts answer bytes before after text
+TellsBytes Frames answer bytes before after text = Same before after × TellsStream answer bytes text
+
 -- a stream of frames that was read whole is answered; nothing goes over the link
 pub record IsListed (answer : Status) (words : List (String Global)) (old new : InputState) (before after : ℕ → Line) (text : List ℕ) : Type 0 where
   pub command : IsFrames words
@@ -164,9 +191,12 @@ Tells status.Usage words old new before after text = IsUsage words old new befor
 Tells status.ReadFault words old new before after text = IsReadFault words old new before after text
 Tells status.WriteFault words old new before after text = ⊥
 Tells (status.Script line cause) words old new before after text = IsAnswer (status.Script line cause) words old new before after text
-Tells (status.Peer side index cause) words old new before after text = IsAnswer (status.Peer side index cause) words old new before after text
-Tells (status.Frame whose connection place cause) words old new before after text = IsListed (status.Frame whose connection place cause) words old new before after text
-Tells (status.Limit which) words old new before after text = IsLimit which words old new before after text
+Tells (status.Peer beside index cause) words old new before after text = IsAnswer (status.Peer beside index cause) words old new before after text
+Tells (status.Frame whose connection place cause) words old new before after text =
+    IsAnswer (status.Frame whose connection place cause) words old new before after text
+    ⊎ IsListed (status.Frame whose connection place cause) words old new before after text
+Tells (status.Limit which) words old new before after text =
+    IsLimit which words old new before after text ⊎ IsAnswer (status.Limit which) words old new before after text
 Tells status.LinkFault words old new before after text = ⊥
 Tells (status.LinkDiffers connection direction place wrote read) words old new before after text = ⊥
 

@@ -4,7 +4,7 @@ ghost use Rattle.waypipe_run.specs.Texts.{frame_text};
 ghost use Rattle.waypipe_run.specs.Streams.{EndsListing};
 ghost use Rattle.waypipe_run.specs.Top.{TellsStream};
 
-use crate::answers::{Reply, ended};
+use crate::replies::{Reply, ended};
 use crate::status::{Reader, Status};
 use crate::texts::{frame_text, rest_text};
 use frame_stream::{StreamEnd, list_frames};

@@ -3,26 +3,18 @@
 #![tactic(auto)]
 
 mod answers;
+mod built;
 mod causes;
-mod decimal;
-mod far;
-mod halts;
-mod hexadecimal;
+mod endings;
 mod laws;
 mod listings;
 mod names;
-mod near;
-mod pieces;
 mod plain;
 mod reading;
-mod replays;
+mod replies;
 mod report;
-mod rounds;
-mod runs;
-mod script;
-mod script_line;
+mod scripts;
 mod status;
-mod steps;
 #[cfg(test)]
 mod tests;
 mod texts;

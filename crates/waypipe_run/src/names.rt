@@ -2,8 +2,9 @@
 ghost use Rattle.std.specs.Prelude.{◌≡◌, string_bytes, IfOk};
 ghost use Rattle.waypipe_run.specs.Names.{script_name, wire_name, object_name, peer_name, limit_name, side_name, reader_name, frame_name, frame_detail};
 
-use crate::causes::{Limit, PeerCause, ScriptCause};
+use crate::causes::{Limit, PeerCause};
 use crate::status::Reader;
+use script_lang::ScriptCause;
 use std::alloc::{AllocError, Global};
 use transfer_frames::FrameCause;
 use wl_wire::{ObjectFault, WireFault};
@@ -20,6 +21,7 @@ pub fn script_name(cause: ScriptCause) -> &'static str
         ScriptCause::Number => "Number",
         ScriptCause::Message => "Message",
         ScriptCause::Name => "Name",
+        ScriptCause::NotBuilt => "NotBuilt",
     }
 }
 

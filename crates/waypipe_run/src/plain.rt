@@ -1,6 +1,6 @@
 //! The call that the program makes.
 ghost use Rattle.std.specs.Prelude.{◌≡◌};
-ghost use Rattle.waypipe_run.specs.Outcomes.{NothingOpened};
+ghost use Rattle.replay_model.specs.Link.{NothingOpened};
 ghost use Rattle.waypipe_run.specs.Top.{Outcome};
 
 use crate::answers::answer;

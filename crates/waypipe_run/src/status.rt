@@ -2,7 +2,8 @@
 ghost use Rattle.std.specs.Prelude.{◌≡◌};
 ghost use Rattle.waypipe_run.specs.Codes.{code_of};
 
-use crate::causes::{Limit, PeerCause, ScriptCause};
+use crate::causes::{Limit, PeerCause};
+use script_lang::ScriptCause;
 use transfer_frames::FrameCause;
 use wp_outside::{Direction, Side};
 

@@ -1,12 +1,13 @@
 //! The last lines of what the program prints.
 ghost use Rattle.std.specs.Prelude.{◌≡◌, string_bytes, IfOk};
-ghost use Rattle.waypipe_run.specs.Texts.{usage_text, read_failed_text, drained_text, script_text, peer_text, limit_text, frame_text, rest_text};
+ghost use Rattle.waypipe_run.specs.Texts.{usage_text, read_failed_text, drained_text, stopped_text, script_text, peer_text, limit_text, frame_text, rest_text};
 
-use crate::causes::{Limit, PeerCause, ScriptCause};
+use crate::causes::{Limit, PeerCause};
 use crate::names::{
     frame_detail, frame_name, limit_name, peer_name, reader_name, script_name, side_name,
 };
 use crate::status::Reader;
+use script_lang::ScriptCause;
 use std::alloc::{AllocError, Global};
 use transfer_frames::FrameCause;
 use wp_outside::Side;
@@ -33,6 +34,14 @@ pub fn drained_text() -> &'static str
     ensures { result.now ≡ drained_text }
 {
     "drained\n"
+}
+
+/// The line of a replay that a script stopped.
+#[tactic(auto, unfolding(crate::specs::Texts::stopped_text))]
+pub fn stopped_text() -> &'static str
+    ensures { result.now ≡ stopped_text }
+{
+    "stopped\n"
 }
 
 /// The line for a script of which a line is none.
