@@ -15,11 +15,7 @@ use transfer_frames::FrameCause;
 use wp_outside::Side;
 
 /// The status that a replay's end gives, and its last line behind the report.
-pub fn end_report(
-    alloc: Global,
-    report: Vec<u8>,
-    replayed: &Replayed,
-) -> Result<Reply, AllocError>
+pub fn end_report(alloc: Global, report: Vec<u8>, replayed: &Replayed) -> Result<Reply, AllocError>
     ensures { IfOk result (λ answer. EndsReport replayed.now answer.status report.items answer.text.items) }
 {
     match replayed.end {

@@ -28,8 +28,20 @@ pub fn report(alloc: Global, texts: bool, replayed: &Replayed) -> Result<Vec<u8>
         replayed.compositor.received.len(),
     )?;
     let mut text = Vec::from_slice(alloc, counts.as_bytes())?;
-    push_all(alloc, &mut text, texts, Way::Request, replayed.compositor.received.as_slice())?;
-    push_all(alloc, &mut text, texts, Way::Event, replayed.application.received.as_slice())?;
+    push_all(
+        alloc,
+        &mut text,
+        texts,
+        Way::Request,
+        replayed.compositor.received.as_slice(),
+    )?;
+    push_all(
+        alloc,
+        &mut text,
+        texts,
+        Way::Event,
+        replayed.application.received.as_slice(),
+    )?;
     Ok(text)
 }
 

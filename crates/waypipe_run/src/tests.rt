@@ -1,9 +1,11 @@
 //! The call as the program makes it, over sources, sinks and a link in memory.
 mod listings;
+mod rows;
 
-use crate::causes::{Limit, PeerCause, ScriptCause};
+use crate::causes::{Limit, PeerCause};
 use crate::plain::run_plain;
 use crate::status::Status;
+use script_lang::ScriptCause;
 use std::alloc::{AllocError, Global};
 use std::test::Fail;
 use wl_wire::{ObjectFault, WireFault};
@@ -31,10 +33,27 @@ fn run(
 // What a replay of a script answers and writes.
 fn replay(alloc: Global, script: &[u8]) -> Result<(Status, Vec<u8>), AllocError> {
     let words = vec![in alloc; String::from_str(alloc, "replay")?]?;
+    replay_by(alloc, words.as_slice(), script)
+}
+
+// The same, with messages as text.
+fn replay_text(alloc: Global, script: &[u8]) -> Result<(Status, Vec<u8>), AllocError> {
+    let words = vec![in alloc;
+        String::from_str(alloc, "replay")?,
+        String::from_str(alloc, "--text")?,
+    ]?;
+    replay_by(alloc, words.as_slice(), script)
+}
+
+fn replay_by(
+    alloc: Global,
+    words: &[String],
+    script: &[u8],
+) -> Result<(Status, Vec<u8>), AllocError> {
     let input = Vec::from_slice(alloc, script)?;
     run(
         alloc,
-        words.as_slice(),
+        words,
         input,
         300_000,
         Vec::new(alloc),
@@ -92,7 +111,7 @@ fn script_faults(rt: HostRuntime) -> Result<(), Fail> {
     let table = [
         ("connect\r\n", 1, ScriptCause::Text, "script line 1: Text\n"),
         (
-            "\n# a\ncomp hex 00\n",
+            "\n# a\nwait hex 00\n",
             3,
             ScriptCause::Word,
             "script line 3: Word\n",
@@ -191,6 +210,18 @@ fn usage(rt: HostRuntime) -> Result<(), Fail> {
             String::from_str(alloc, "--text")?,
         ]?,
         vec![in alloc; String::from_str(alloc, "--help")?]?,
+        vec![in alloc;
+            String::from_str(alloc, "replay")?,
+            String::from_str(alloc, "--long")?,
+        ]?,
+        vec![in alloc;
+            String::from_str(alloc, "--text")?,
+            String::from_str(alloc, "replay")?,
+        ]?,
+        vec![in alloc;
+            String::from_str(alloc, "frames")?,
+            String::from_str(alloc, "--text")?,
+        ]?,
     ];
     for words in table {
         let input = Vec::from_slice(alloc, b"connect")?;
@@ -263,25 +294,6 @@ fn failing_in_mid_stream(rt: HostRuntime) -> Result<(), Fail> {
     Ok(())
 }
 
-// The line that puts a message of 65,532 bytes on the wire.
-fn long_line(alloc: Global) -> Result<Vec<u8>, AllocError> {
-    let mut line = Vec::from_slice(alloc, b"app hex 010000000000fcff")?;
-    for _ in 0..131_048u32 {
-        line.push(b'7')?;
-    }
-    line.push(b'\n')?;
-    Ok(line)
-}
-
-#[test]
-fn longest_message(rt: HostRuntime) -> Result<(), Fail> {
-    let line = long_line(rt.alloc())?;
-    let (status, text) = replay(rt.alloc(), line.as_slice())?;
-    assert_eq!(rt; status, Status::Done);
-    assert_eq!(rt; text.len(), 73 + 15 + 131_064 + 1 + 8);
-    Ok(())
-}
-
 // A comment of this many bytes.
 fn comment(alloc: Global, length: usize) -> Result<Vec<u8>, AllocError> {
     vec![in alloc; b'#'; length]
@@ -315,5 +327,26 @@ fn limit_input(rt: HostRuntime) -> Result<(), Fail> {
         }
     );
     assert_eq!(rt; text.as_slice(), b"limit input\n".as_slice());
+    Ok(())
+}
+
+// Lines are counted before any of them is read.
+#[test]
+fn limit_lines(rt: HostRuntime) -> Result<(), Fail> {
+    let alloc = rt.alloc();
+    let most = vec![in alloc; b'\n'; 200_000]?;
+    let (status, _) = replay(alloc, most.as_slice())?;
+    assert_eq!(rt; status, Status::Done);
+    let mut above = Vec::from_slice(alloc, b"no line")?;
+    above.extend_from_slice(most.as_slice())?;
+    above.push(b'#')?;
+    let (status, text) = replay(alloc, above.as_slice())?;
+    assert_eq!(rt;
+        status,
+        Status::Limit {
+            which: Limit::Lines
+        }
+    );
+    assert_eq!(rt; text.as_slice(), b"limit lines\n".as_slice());
     Ok(())
 }
