@@ -1,0 +1,80 @@
+"""What the measurements share: building the program, running it on a file, and a row of figures."""
+import os
+import subprocess
+import sys
+import tempfile
+import time
+
+BENCH = os.path.dirname(os.path.abspath(__file__))
+ROOT = os.path.dirname(BENCH)
+HEADS = ("MB", "seconds", "MB/s", "x-half", "memory/in", "x-plain")
+
+
+def program():
+    """The proved program, built where it was missing or older than its sources."""
+    with open(os.devnull) as nothing:
+        subprocess.run([os.path.join(ROOT, "waypipe"), "replay"], stdin=nothing, stdout=subprocess.DEVNULL, check=True)
+    return os.path.join(ROOT, "crates/waypipe_run/out/waypipe_run")
+
+
+def plain(name, folder):
+    """A plain program in C, which does the same job with no proof."""
+    path = os.path.join(folder, name)
+    subprocess.run(["gcc", "-O2", "-o", path, os.path.join(BENCH, name + ".c")], check=True)
+    return path
+
+
+def run(words, path):
+    """The seconds and the peak memory in bytes of one run; its output is thrown away."""
+    began = time.monotonic()
+    child = os.fork()
+    if child == 0:
+        os.dup2(os.open(path, os.O_RDONLY), 0)
+        os.dup2(os.open(os.devnull, os.O_WRONLY), 1)
+        os.execv(words[0], words)
+    _, status, usage = os.wait4(child, 0)
+    if status != 0:
+        sys.exit(f"{' '.join(words)} < {path}: status {os.waitstatus_to_exitcode(status)}")
+    return time.monotonic() - began, usage.ru_maxrss * 1024
+
+
+def measure(words, path, times=3):
+    """The least time and the greatest memory of several runs."""
+    runs = [run(words, path) for _ in range(times)]
+    return min(seconds for seconds, _ in runs), max(peak for _, peak in runs)
+
+
+def output(words, path):
+    """What a program writes."""
+    with open(path, "rb") as given:
+        return subprocess.run(words, stdin=given, stdout=subprocess.PIPE, check=True).stdout
+
+
+def heads(*labels):
+    """The first line of a table."""
+    print("".join(f"{label:<10}" for label in labels) + "".join(f"{head:>10}" for head in HEADS))
+
+
+def series(labels, files, ours, beside=None):
+    """A row for each file, each twice as long as the one before. `beside` writes the same text."""
+    before = None
+    for path in files:
+        if beside and output(ours, path) != output(beside, path):
+            sys.exit(f"{path}: {' '.join(beside)} writes another text")
+        length = os.path.getsize(path)
+        seconds, memory = measure(ours, path)
+        figures = [
+            f"{length / 1e6:.1f}",
+            f"{seconds:.3f}",
+            f"{length / 1e6 / seconds:.1f}",
+            f"{seconds / before:.2f}" if before else "-",
+            f"{memory / length:.2f}",
+            f"{seconds / measure(beside, path)[0]:.2f}" if beside else "-",
+        ]
+        print("".join(f"{label:<10}" for label in labels) + "".join(f"{figure:>10}" for figure in figures), flush=True)
+        before = seconds
+
+
+def folder():
+    """A folder for work, which goes with the program."""
+    return tempfile.TemporaryDirectory()
