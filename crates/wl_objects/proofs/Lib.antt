@@ -1,5 +1,6 @@
-mod Parts
+pub mod Parts
 mod Room
-mod Shown
+pub mod Shown
 mod Values
 mod Versions
+pub mod WholeShown
