@@ -1,4 +1,5 @@
 pub mod Fronts
+pub mod Idle
 pub mod FrameRows
 pub mod Lines
 pub mod ManyMoves

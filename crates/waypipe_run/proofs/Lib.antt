@@ -1,2 +1,2 @@
 pub mod MovingLemmas
-pub mod TopLemmas
+pub mod PrintLemmas

@@ -1,5 +1,6 @@
 pub mod Parts
 mod Room
+pub mod Rows
 pub mod Shown
 mod Values
 mod Versions

@@ -1,10 +1,14 @@
--- Laws of the objects of a Wayland connection: messages that pass can be passed in parts, and shown in parts or one by one.
-use Rattle.std.specs.Prelude.{ℕ, ◌≡◌, List, [], ◌∷◌, ◌++◌, option_to_list, IfSome, Ok}
-use Rattle.wl_wire.specs.Wire.{IsMessage}
+-- Laws of the objects of a Wayland connection: messages that pass can be passed in parts, and shown in parts or one by one, and each is one of the table of messages.
+use Rattle.std.specs.Prelude.{ℕ, ◌≡◌, List, [], ◌∷◌, ◌++◌, drop, option_to_list, IfSome, Some, None, Ok}
+use Rattle.wl_wire.specs.ArgFaults.{args_fault}
+use Rattle.wl_wire.specs.SignatureForm.{SignatureForm}
+use Rattle.wl_wire.specs.Wire.{IsMessage, opcode_of}
+use Rattle.wl_tables.specs.Messages.{signature}
 use Rattle.wl_tables.specs.declared.way.Way.{Way}
 use Rattle.wl_tables.specs.declared.way.Way.TheVariants.{Request, Event}
 use Rattle.wl_objects.specs.Entries.{Tracked}
-use Rattle.wl_objects.specs.Tracking.{then_goes, Step, step, track}
+use Rattle.wl_objects.specs.Tracking.{is_event, then_goes, Step, step, track}
+use Rattle.wl_objects.specs.declared.passed.Passed.{Passed}
 use Rattle.wl_objects.specs.Registry.{ObjectsState, view, visible, state_after}
 
 -- messages behind others go on with the objects that those leave
@@ -66,3 +70,17 @@ RequestIsNotShown =
 -- what is shown of a whole message is a whole message
 abbrev pub ShownIsWhole : Type 0
 ShownIsWhole = (state : ObjectsState) (message : List ℕ) → IsMessage message → IfSome (view state message).shown IsMessage
+
+-- a message that was found to be this is the table's row of the interface and the opcode, and its arguments are good
+pub record IsByTheTable (way : Way) (message : List ℕ) (passed : Passed) : Type 0 where
+  pub form : SignatureForm
+  pub row : signature passed.interface (is_event way) (opcode_of message) ≡ Some form
+  pub good : args_fault form.slots (drop 8 message) ≡ None
+  pub opcode : passed.opcode ≡ opcode_of message
+
+-- each message that passes is one of the table's, with good arguments
+abbrev pub PassedByTheTable : Type 0
+PassedByTheTable =
+    (way : Way) (objects : Tracked) (message : List ℕ) (done : Step)
+    → step way objects message ≡ Ok done
+    → IsByTheTable way message done.passed

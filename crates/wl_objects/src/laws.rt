@@ -1,6 +1,6 @@
 // Laws of tracking and of what is shown: each function does nothing, and its clauses are the laws.
 
-ghost use Rattle.wl_objects.specs.ObjectLaws.{TrackGoesOn, FrontIsTracked, StateIsTracked, StateGoesOn, VisibleGoesOn, EventIsViewed, RequestIsNotShown, ShownIsWhole};
+ghost use Rattle.wl_objects.specs.ObjectLaws.{TrackGoesOn, FrontIsTracked, StateIsTracked, StateGoesOn, VisibleGoesOn, EventIsViewed, RequestIsNotShown, ShownIsWhole, PassedByTheTable};
 
 /// Messages that pass can be passed in parts.
 pub fn tracked_in_parts()
@@ -21,4 +21,9 @@ pub fn shown_one_by_one()
     ensures event { EventIsViewed }
     ensures request { RequestIsNotShown }
     ensures whole { ShownIsWhole }
+{}
+
+/// A message that passes is one of the table's: its interface has a message of its opcode, and its arguments are good.
+pub fn passed_by_the_table()
+    ensures { PassedByTheTable }
 {}

@@ -12,7 +12,7 @@ mod registry_event;
 mod tracker;
 mod viewing;
 
-pub use laws::{shown_in_parts, shown_one_by_one, tracked_in_parts};
+pub use laws::{passed_by_the_table, shown_in_parts, shown_one_by_one, tracked_in_parts};
 pub use objects::Objects;
 pub use passed::{PassFault, Passed};
 
