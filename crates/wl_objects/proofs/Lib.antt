@@ -1,5 +1,5 @@
-mod Parts
+pub mod Parts
 mod Room
-mod Shown
+pub mod Shown
 mod Values
 mod Versions
