@@ -1,0 +1,9 @@
+//! A replay of a script through two proxies and one connection, as plain data: what each line of the script does, what it
+//! comes to, and what holds of it.
+#![tactic(auto)]
+
+mod ends;
+mod received;
+
+pub use ends::{End, Fault, Refusal};
+pub use received::Received;
