@@ -1,5 +1,5 @@
 -- What the lines of a script do, and how a replay ends. The script language is this project's own.
-use Rattle.std.specs.Prelude.{◌≡◌, ◌≢◌, ℕ, zero, suc, Bool, true, false, List, [], ◌∷◌, Option, Some, None, ◌⊎◌}
+use Rattle.std.specs.Prelude.{◌≡◌, ◌≢◌, ℕ, zero, suc, Bool, true, false, List, [], ◌∷◌, Option, Some, None, ◌⊎◌, max}
 use Rattle.wp_outside.specs.declared.kinds.Side.TheVariants.{Near, Far}
 use Rattle.wp_outside.specs.declared.kinds.Direction.TheVariants.{Up, Down}
 use Rattle.script_lang.specs.Puts.{is_stop}
@@ -59,9 +59,9 @@ DoesBy false what old new stop = MovesAll (moves_of what) old new stop
 abbrev pub Does : StepKind → Pair → Pair → Option Fault → Type 0
 Does what old new stop = DoesBy (settles what) what old new stop
 
--- the size of the rounds at the end, after a line
+-- the size of the rounds at the end, after a line; a round may move at least one byte
 abbrev pub size_after : ℕ → StepKind → ℕ
-size_after most (line.Drain bytes) = bytes
+size_after most (line.Drain bytes) = max bytes 1
 size_after most _ = most
 
 -- how the rounds at the end end

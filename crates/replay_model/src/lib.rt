@@ -3,7 +3,9 @@
 #![tactic(auto)]
 
 mod ends;
+mod laws;
 mod received;
 
 pub use ends::{End, Fault, Refusal};
+pub use laws::{one_run, orders_are_allowed, runs_hold, stops_at_stop};
 pub use received::Received;
