@@ -3,3 +3,4 @@ mod Room
 pub mod Shown
 mod Values
 mod Versions
+pub mod WholeShown

@@ -17,7 +17,7 @@ size-with_version message version long =
     size_of-append (take (length message - 4) message) (word_bytes version) (omega (arith, front))
     ∙ size_of-take (length message - 4) message (omega arith) (omega arith)
 
-whole-with_version : (message : List ℕ) (version : ℕ) → IsMessage message → 12 ≤ length message → IsMessage (with_version message version)
+pub whole-with_version : (message : List ℕ) (version : ℕ) → IsMessage message → 12 ≤ length message → IsMessage (with_version message version)
 whole-with_version message version whole long =
     let same : length (with_version message version) ≡ length message = length-with_version message version long in
     record {

@@ -1,5 +1,6 @@
 -- Laws of the objects of a Wayland connection: messages that pass can be passed in parts, and shown in parts or one by one.
-use Rattle.std.specs.Prelude.{ℕ, ◌≡◌, List, [], ◌∷◌, ◌++◌, option_to_list, Ok}
+use Rattle.std.specs.Prelude.{ℕ, ◌≡◌, List, [], ◌∷◌, ◌++◌, option_to_list, IfSome, Ok}
+use Rattle.wl_wire.specs.Wire.{IsMessage}
 use Rattle.wl_tables.specs.declared.way.Way.{Way}
 use Rattle.wl_tables.specs.declared.way.Way.TheVariants.{Request, Event}
 use Rattle.wl_objects.specs.Entries.{Tracked}
@@ -61,3 +62,7 @@ RequestIsNotShown =
     → step Request objects message ≡ Ok done
     → (visible state (front ++ (Request, message) ∷ []) ≡ visible state front)
     × (state_after state (front ++ (Request, message) ∷ []) ≡ viewed_in state front done)
+
+-- what is shown of a whole message is a whole message
+abbrev pub ShownIsWhole : Type 0
+ShownIsWhole = (state : ObjectsState) (message : List ℕ) → IsMessage message → IfSome (view state message).shown IsMessage

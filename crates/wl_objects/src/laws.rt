@@ -1,6 +1,6 @@
 // Laws of tracking and of what is shown: each function does nothing, and its clauses are the laws.
 
-ghost use Rattle.wl_objects.specs.ObjectLaws.{TrackGoesOn, FrontIsTracked, StateIsTracked, StateGoesOn, VisibleGoesOn, EventIsViewed, RequestIsNotShown};
+ghost use Rattle.wl_objects.specs.ObjectLaws.{TrackGoesOn, FrontIsTracked, StateIsTracked, StateGoesOn, VisibleGoesOn, EventIsViewed, RequestIsNotShown, ShownIsWhole};
 
 /// Messages that pass can be passed in parts.
 pub fn tracked_in_parts()
@@ -15,8 +15,10 @@ pub fn shown_in_parts()
     ensures visible { VisibleGoesOn }
 {}
 
-/// What is shown of messages that pass is shown one by one: of an event what its view shows, of a request nothing.
+/// What is shown of messages that pass is shown one by one: of an event what its view shows, of a request nothing; and whole
+/// messages are shown as whole ones.
 pub fn shown_one_by_one()
     ensures event { EventIsViewed }
     ensures request { RequestIsNotShown }
+    ensures whole { ShownIsWhole }
 {}
