@@ -1,0 +1,70 @@
+-- Lists that begin others, and lists that are parted in two ways.
+use Rattle.std.proofs.Common.{◌≡◌, ℕ, ◌+◌, ◌≤◌, ◌⊎◌, inl, inr, List, [], ◌∷◌, ◌++◌, length, drop, refl, sym, ap, ◌∙◌, append_assoc, append-nil, arith, length-append}
+use Rattle.std.proofs.lemmas.List.{nil_from_length, drop_at}
+use Rattle.replay_model.specs.Headline.{Starts}
+
+pub starts_refl : {X : Type 0} (xs : List X) → Starts xs xs
+starts_refl xs = record { rest = []; is = append-nil xs }
+
+pub starts_same : {X : Type 0} (xs ys : List X) → xs ≡ ys → Starts xs ys
+starts_same xs ys same = record { rest = []; is = append-nil xs ∙ same }
+
+pub starts_append : {X : Type 0} (xs ys : List X) → Starts xs (xs ++ ys)
+starts_append xs ys = record { rest = ys; is = refl }
+
+pub starts_trans : {X : Type 0} {xs ys zs : List X} → Starts xs ys → Starts ys zs → Starts xs zs
+starts_trans {X} {xs} {ys} {zs} a b =
+    record { rest = a.rest ++ b.rest; is = sym (append_assoc xs a.rest b.rest) ∙ ap (λ (l : List X). l ++ b.rest) a.is ∙ b.is }
+
+pub starts_more : {X : Type 0} {xs ys : List X} → Starts xs ys → (zs : List X) → Starts xs (ys ++ zs)
+starts_more {X} {xs} {ys} a zs = starts_trans a (starts_append ys zs)
+
+-- behind the same front
+pub starts_behind : {X : Type 0} (front : List X) {xs ys : List X} → Starts xs ys → Starts (front ++ xs) (front ++ ys)
+starts_behind {X} front {xs} {ys} a =
+    record { rest = a.rest; is = append_assoc front xs a.rest ∙ ap (λ (l : List X). front ++ l) a.is }
+
+pub starts_length : {X : Type 0} {xs ys : List X} → Starts xs ys → length xs ≤ length ys
+starts_length {X} {xs} {ys} a = omega (arith, length-append xs a.rest, ap length a.is)
+
+-- a list is its front and what stands behind it
+pub starts_drop : {X : Type 0} {xs ys : List X} → Starts xs ys → xs ++ drop (length xs) ys ≡ ys
+starts_drop {X} {xs} {ys} a =
+    ap (λ (l : List X). xs ++ drop (length xs) l) (sym a.is) ∙ ap (λ (l : List X). xs ++ l) (drop_at xs a.rest (length xs) refl) ∙ a.is
+
+-- two lists that begin each other are one
+pub starts_both : {X : Type 0} {xs ys : List X} → Starts xs ys → Starts ys xs → xs ≡ ys
+starts_both {X} {xs} {ys} a b =
+    let none : length a.rest ≡ 0 = omega (arith, length-append xs a.rest, ap length a.is, starts_length b) in
+    sym (append-nil xs) ∙ ap (λ (l : List X). xs ++ l) (sym (nil_from_length a.rest none)) ∙ a.is
+
+pub not_empty : {X : Type 0} (front : List X) (it : X) (back : List X) → [] ≡ front ++ it ∷ back → ⊥
+not_empty [] it back e = cc
+not_empty (x ∷ front) it back e = cc
+
+-- one more at the end is the one parted from, or stands behind it
+pub last_or_before : {X : Type 0} (list : List X) (last : X) (front back : List X) (it : X) → list ++ last ∷ [] ≡ front ++ it ∷ back
+    → ((front ≡ list) × (it ≡ last)) ⊎ ((within : List X) × (list ≡ front ++ it ∷ within))
+last_or_before [] last [] back it e = inl (refl, cc)
+last_or_before {X} [] last (x ∷ front) back it e = absurd (let tails : [] ≡ front ++ it ∷ back = cc in not_empty front it back tails)
+last_or_before (x ∷ list) last [] back it e = inr (list, let same : x ≡ it = cc in ap (λ y. y ∷ list) same)
+last_or_before {X} (x ∷ list) last (y ∷ front) back it e =
+    let same : x ≡ y = cc in
+    let tails : list ++ last ∷ [] ≡ front ++ it ∷ back = cc in
+    elim (last_or_before list last front back it tails) [
+      | inl found ↦ inl (ap (λ (l : List X). y ∷ l) found.0 ∙ ap (λ (z : X). z ∷ list) (sym same), found.1)
+      | inr found ↦ inr (found.0, ap (λ (z : X). z ∷ list) same ∙ ap (λ (l : List X). y ∷ l) found.1)
+    ]
+
+-- one that a list is parted from stands within its front, or the front ends before it
+pub within_or_beyond : {X : Type 0} (before after front back : List X) (it : X) → before ++ it ∷ after ≡ front ++ back
+    → ((within : List X) × (front ≡ before ++ it ∷ within)) ⊎ ((between : List X) × (before ≡ front ++ between))
+within_or_beyond before after [] back it e = inr (before, refl)
+within_or_beyond [] after (x ∷ front) back it e = inl (front, let same : it ≡ x = cc in ap (λ y. y ∷ front) (sym same))
+within_or_beyond {X} (y ∷ before) after (x ∷ front) back it e =
+    let same : y ≡ x = cc in
+    let tails : before ++ it ∷ after ≡ front ++ back = cc in
+    elim (within_or_beyond before after front back it tails) [
+      | inl found ↦ inl (found.0, ap (λ (z : X). z ∷ front) (sym same) ∙ ap (λ (l : List X). y ∷ l) found.1)
+      | inr found ↦ inr (found.0, ap (λ (z : X). z ∷ before) same ∙ ap (λ (l : List X). x ∷ l) found.1)
+    ]
