@@ -1,8 +1,14 @@
 pub mod Fronts
 pub mod FrameRows
+pub mod Lines
+pub mod ManyMoves
+pub mod OneMove
 pub mod Passages
 pub mod Pulling
+pub mod RunEnds
+pub mod Settling
 pub mod Sides
+pub mod Standing
 pub mod StopLines
 pub mod Ways
 pub mod Wires

@@ -6,8 +6,10 @@ use Rattle.std.proofs.lemmas.List.{take-take, take-append-le}
 use Rattle.std.proofs.lemmas.List.Elements.{recursion_from_All}
 use Rattle.wl_wire.specs.declared.faults.WireFault.{WireFault}
 use Rattle.wl_wire.specs.declared.faults.ObjectFault.TheVariants.{Wire}
-use Rattle.wl_wire.specs.Wire.{IsMessage, cut, cut_rest, cut_fault}
-use Rattle.wl_wire.proofs.CuttingLaws.{cut-goes_on, cut-joins, cut-fault-stays}
+use Rattle.wl_wire.specs.Wire.{IsMessage, first, fault_in, cut, cut_rest, cut_fault}
+use Rattle.wl_wire.proofs.Cutting.{stops-nil}
+use Rattle.wl_wire.proofs.FrontLemmas.{first-short}
+use Rattle.wl_wire.proofs.CuttingLaws.{cut-nothing, cut-goes_on, cut-joins, cut-fault-stays}
 use Rattle.wl_tables.specs.declared.way.Way.{Way}
 use Rattle.wp_outside.specs.declared.kinds.Side.{Side}
 use Rattle.replay_model.specs.Halves.{Half, own_way, taken_by}
@@ -48,6 +50,16 @@ stuck_front n bytes fault met =
 
 pub cut_whole : (bytes : List ℕ) → AreMessages (cut bytes)
 cut_whole bytes = recursion_from_All IsMessage (cut bytes) (cut-joins bytes).1
+
+-- no bytes have no message and no fault
+pub record CutNothing : Type 0 where
+  pub messages : cut [] ≡ []
+  pub fine : cut_fault [] ≡ None
+
+pub cut_nothing : CutNothing
+cut_nothing =
+    let none = cut-nothing [] stops-nil in
+    record { messages = none.0; fine = ap (λ (rest : List ℕ). fault_in (first rest)) none.1 ∙ ap fault_in (first-short [] (omega arith)) }
 
 -- ---- a proxy and its peer's wire
 
