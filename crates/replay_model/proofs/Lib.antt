@@ -1,12 +1,16 @@
+pub mod AllowedOrders
 pub mod Fronts
-pub mod Idle
 pub mod FrameRows
+pub mod Idle
 pub mod Lines
 pub mod ManyMoves
 pub mod OneMove
+pub mod OneWay
+pub mod Options
 pub mod Passages
 pub mod Pulling
 pub mod RunEnds
+pub mod SameMoves
 pub mod Settling
 pub mod Sides
 pub mod Standing

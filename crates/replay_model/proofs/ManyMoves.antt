@@ -1,5 +1,5 @@
 -- What many moves make of where a replay stands: those of a line, a round of them, and rounds until one changes nothing. The moves are this project's own.
-use Rattle.std.proofs.Common.{◌≡◌, ℕ, zero, suc, ◌≤◌, Bool, true, false, List, [], ◌∷◌, ◌++◌, Option, Some, None, max, inl, inr, refl, sym, ap, ◌∙◌, subst, append_assoc, append-nil, arith}
+use Rattle.std.proofs.Common.{ℕ, zero, suc, List, [], ◌∷◌, Option, Some, None, inl, inr, refl, sym, ◌∙◌, subst, append-nil}
 use Rattle.std.specs.List.{AllByRecursion}
 use Rattle.wp_outside.specs.declared.kinds.Side.{Side}
 use Rattle.wp_outside.specs.declared.kinds.Side.TheVariants.{Near, Far}
@@ -8,10 +8,11 @@ use Rattle.script_lang.specs.declared.steps.StepKind.{StepKind}
 use Rattle.script_lang.specs.declared.steps.StepKind.TheVariants as line
 use Rattle.replay_model.specs.Halves.{Pair}
 use Rattle.replay_model.specs.Moves.{Move, Put, Take, Connect, ConnectIfMade, Push, Pull, Moves, MovesAll}
-use Rattle.replay_model.specs.Runs.{round, Rounds, Settles, settles, moves_of, MOST, Does, DoesBy}
+use Rattle.replay_model.specs.Runs.{round, Rounds, Settles, MOST, Does}
 use Rattle.replay_model.specs.declared.ends.Fault.{Fault}
-use Rattle.replay_model.proofs.OneMove.{put_in, came}
-use Rattle.replay_model.proofs.Standing.{Stands, After, Grew, Came, grew_refl, grew_trans, came_at}
+use Rattle.replay_model.proofs.OneMove.{came}
+use Rattle.replay_model.proofs.Options.{not_both}
+use Rattle.replay_model.proofs.Standing.{Stands, Came, grew_refl, grew_trans, came_at}
 
 -- a move that puts nothing
 abbrev pub IsQuiet : Move → Type 0
@@ -67,11 +68,8 @@ puts_nothing : (old new : Pair) (stop : Option Fault) → Came old new stop [] [
 puts_nothing old new None it = it
 puts_nothing old new (Some fault) it = it
 
-some_none : (fault : Fault) → Some fault ≡ None → ⊥
-some_none fault e = cc
-
 puts_one : (side : Side) (bytes : List ℕ) (old new : Pair) (stop : Option Fault) → Stands old → MovesAll (Put side bytes ∷ []) old new stop → Came old new stop (put_where stop (if_peer Near side bytes)) (put_where stop (if_peer Far side bytes))
-puts_one side bytes old new stop it (inl met) = absurd (some_none met.0 met.1.1)
+puts_one side bytes old new stop it (inl met) = absurd (not_both (Some met.0) met.0 refl met.1.1)
 puts_one side bytes old new stop it (inr went) =
     came_at old new went.0 stop None (put_where stop (if_peer Near side bytes)) (put_where stop (if_peer Far side bytes)) went.2.0 went.2.1
     (subst (λ (s : Option Fault). Came old went.0 None (put_where s (if_peer Near side bytes)) (put_where s (if_peer Far side bytes))) (sym went.2.1)

@@ -1,2 +1,3 @@
+pub mod LinkLemmas
 pub mod MovingLemmas
 pub mod PrintLemmas

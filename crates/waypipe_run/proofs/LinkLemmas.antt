@@ -1,6 +1,7 @@
 -- What the link tells of a replay, by what holds of its two halves: the bytes pushed are a front of the frames of the Wayland messages that were made, and those pulled are the frames of the messages that were given, and a rest.
-use Rattle.std.proofs.Common.{◌≡◌, ◌≢◌, ℕ, ◌+◌, ◌≤◌, Bool, true, false, cond, List, [], ◌∷◌, ◌++◌, length, take, drop, refl, sym, ap, ◌∙◌, subst, arith, append_assoc, length-append}
+use Rattle.std.proofs.Common.{◌≡◌, ◌≢◌, ℕ, ◌+◌, ◌-◌, ◌≤◌, Bool, true, false, cond, List, [], ◌∷◌, ◌++◌, length, take, drop, refl, sym, ap, ◌∙◌, subst, arith, append_assoc, length-append}
 use Rattle.std.proofs.lemmas.List.{append-nil, take-append-drop}
+use Rattle.std.proofs.Math.Seq.{take-append-add}
 use Rattle.wp_outside.specs.Lines.{IsFront, Lane, Line, fresh_lane, fresh_line}
 use Rattle.wp_outside.specs.declared.kinds.Side.{Side}
 use Rattle.wp_outside.specs.declared.kinds.Side.TheVariants.{Near, Far}
@@ -24,7 +25,9 @@ use Rattle.waypipe_run.specs.Outcomes.{Decoded, OverLink}
 
 -- a longer front of a list that is joined of two begins with the first
 take_over : (n : ℕ) (a b : List ℕ) → length a ≤ n → take n (a ++ b) ≡ a ++ take (n - length a) b
-take_over n a b le = ?
+take_over n a b le =
+    let split : n ≡ length a + (n - length a) = omega (arith, le) in
+    ap (λ (k : ℕ). take k (a ++ b)) split ∙ take-append-add a b (n - length a)
 
 -- where a proxy refused the next message, those before it were read whole
 refused_row : (side : Side) (pair : Pair) (cause : Refusal) → FrameRefused side pair cause → Decoded (take (half_of side pair).pulled (frame_bytes (other side) (half_of (other side) pair))) (given_by side (half_of side pair))
