@@ -1,4 +1,5 @@
 pub mod AllowedOrders
+pub mod Claims
 pub mod Fronts
 pub mod FrameRows
 pub mod Idle

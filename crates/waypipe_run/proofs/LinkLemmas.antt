@@ -1,13 +1,12 @@
 -- What the link tells of a replay, by what holds of its two halves: the bytes pushed are a front of the frames of the Wayland messages that were made, and those pulled are the frames of the messages that were given, and a rest.
-use Rattle.std.proofs.Common.{◌≡◌, ◌≢◌, ℕ, ◌+◌, ◌-◌, ◌≤◌, Bool, true, false, cond, List, [], ◌∷◌, ◌++◌, length, take, drop, refl, sym, ap, ◌∙◌, subst, arith, append_assoc, length-append}
-use Rattle.std.proofs.lemmas.List.{append-nil, take-append-drop}
+use Rattle.std.proofs.Common.{◌≡◌, ℕ, ◌+◌, ◌-◌, ◌≤◌, Bool, true, false, cond, List, [], ◌∷◌, ◌++◌, length, take, drop, refl, sym, ap, ◌∙◌, subst, arith, length-append}
+use Rattle.std.proofs.lemmas.List.{take-append-drop}
 use Rattle.std.proofs.Math.Seq.{take-append-add}
 use Rattle.wp_outside.specs.Lines.{IsFront, Lane, Line, fresh_lane, fresh_line}
 use Rattle.wp_outside.specs.declared.kinds.Side.{Side}
 use Rattle.wp_outside.specs.declared.kinds.Side.TheVariants.{Near, Far}
-use Rattle.wl_objects.specs.Registry.{first_state, visible}
 use Rattle.script_lang.specs.declared.steps.Step.{Step}
-use Rattle.replay_model.specs.Halves.{Half, Pair, first_half, given_by, half_of, made_by, other, taken_by}
+use Rattle.replay_model.specs.Halves.{Pair, given_by, half_of, other}
 use Rattle.replay_model.specs.Headline.{EndsWith, FrameRefused, ReadsAll}
 use Rattle.replay_model.specs.Link.{Tells, lane, line_of}
 use Rattle.replay_model.specs.Moves.{frame_bytes}
@@ -19,8 +18,7 @@ use Rattle.replay_model.specs.declared.ends.Fault.TheVariants.{Peer, Frame}
 use Rattle.replay_model.specs.declared.ends.Refusal.{Refusal}
 use Rattle.replay_model.proofs.FrameRows.{frames_append}
 use Rattle.replay_model.proofs.Idle.{idle_run}
-use Rattle.replay_model.proofs.Lines.{run_ended}
-use Rattle.replay_model.proofs.RunEnds.{ended_with, ended_holds}
+use Rattle.replay_model.proofs.Claims.{runs_hold, runs_end}
 use Rattle.waypipe_run.specs.Outcomes.{Decoded, OverLink}
 
 -- a longer front of a list that is joined of two begins with the first
@@ -85,8 +83,8 @@ none_above n m le none = omega arith
 -- what the link tells of a run
 pub over_link : (steps : List Step) (pair : Pair) (end : End) (line : ℕ → Line) → Runs steps pair end → Tells pair line → OverLink pair line
 over_link steps pair end line runs tells =
-    let came = ended_with steps pair end (run_ended steps pair end runs) in
-    let holds = ended_holds steps pair end (run_ended steps pair end runs) in
+    let came = runs_end steps pair end runs in
+    let holds = runs_hold steps pair end runs in
     let idle = idle_run steps pair end runs in
     let up : (line 1).up ≡ cond pair.connected (lane (frame_bytes Near pair.near) pair.near.pushed pair.far.pulled) fresh_lane = ap (λ (l : Line). l.up) tells.here ∙ up_lane pair.connected pair in
     let down : (line 1).down ≡ cond pair.connected (lane (frame_bytes Far pair.far) pair.far.pushed pair.near.pulled) fresh_lane = ap (λ (l : Line). l.down) tells.here ∙ down_lane pair.connected pair in
@@ -94,10 +92,10 @@ over_link steps pair end line runs tells =
       pushed_up = subst (λ (l : Lane). IsFront l.pushed (frame_bytes Near pair.near)) (sym up) (lane_pushed pair.connected (frame_bytes Near pair.near) pair.near.pushed pair.far.pulled);
       pushed_down = subst (λ (l : Lane). IsFront l.pushed (frame_bytes Far pair.far)) (sym down) (lane_pushed pair.connected (frame_bytes Far pair.far) pair.far.pushed pair.near.pulled);
       pulled_up = subst (λ (l : Lane). Decoded l.pulled (given_by Far pair.far)) (sym up)
-        (lane_pulled pair.connected (frame_bytes Near pair.near) pair.near.pushed pair.far.pulled (given_by Far pair.far)
+          (lane_pulled pair.connected (frame_bytes Near pair.near) pair.near.pushed pair.far.pulled (given_by Far pair.far)
           (λ off. none_above pair.far.pulled pair.near.pushed holds.up.pulled (idle off).near) (pulled_row Far steps pair end came));
       pulled_down = subst (λ (l : Lane). Decoded l.pulled (given_by Near pair.near)) (sym down)
-        (lane_pulled pair.connected (frame_bytes Far pair.far) pair.far.pushed pair.near.pulled (given_by Near pair.near)
+          (lane_pulled pair.connected (frame_bytes Far pair.far) pair.far.pushed pair.near.pulled (given_by Near pair.near)
           (λ off. none_above pair.near.pulled pair.far.pushed holds.down.pulled (idle off).far) (pulled_row Near steps pair end came));
       opened = ap (λ (l : Line). l.was_opened) tells.here ∙ opened_line pair.connected pair;
       others = tells.others;

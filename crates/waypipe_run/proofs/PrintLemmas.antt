@@ -26,11 +26,10 @@ use Rattle.replay_model.specs.Headline.{Passes}
 use Rattle.replay_model.specs.Passing.{carries_handle, objects_after, received_from, received_in, received_of, received_then, refusal_of}
 use Rattle.replay_model.specs.declared.ends.Refusal.TheVariants.{HandleMissing}
 use Rattle.replay_model.specs.declared.received.Received.{Received}
-use Rattle.replay_model.proofs.Lines.{run_ended}
-use Rattle.replay_model.proofs.RunEnds.{ended_holds}
+use Rattle.replay_model.proofs.Claims.{runs_hold}
 use Rattle.pair_replay.specs.Outcome.{Replays}
 use Rattle.pair_replay.specs.declared.replayed.Replayed.{Replayed}
-use Rattle.script_lang.specs.declared.steps.Step.{Step}
+use Rattle.script_lang.specs.declared.steps.Step.{Step as ScriptStep}
 use Rattle.wp_outside.specs.Lines.{Line}
 use Rattle.waypipe_run.specs.Printing.{PrintsAll}
 
@@ -61,7 +60,7 @@ printed : (way : Way) (message : List ℕ) (done : Step) → IsByTheTable way me
 printed way message done is none =
     let found = form_ok (slice_get (messages done.passed.interface (way_of (is_event way))) (opcode_of message)) is.form is.row in
     let kind : is_some (handle_kind done.passed.interface (is_event way) (opcode_of message)) ≡ false =
-        ap (λ (o : ℕ). is_some (handle_kind done.passed.interface (is_event way) o)) (sym is.opcode) ∙ none in
+    ap (λ (o : ℕ). is_some (handle_kind done.passed.interface (is_event way) o)) (sym is.opcode) ∙ none in
     record {
       row = found.0;
       stands = ap (λ (w : Way). slice_get (messages done.passed.interface w) (opcode_of message)) (sym (way_again way)) ∙ found.1;
@@ -109,7 +108,7 @@ all_at (it ∷ rest) front objects passes tracked =
     let goes : track objects (it ∷ []) ≡ Ok parts.0 = ap (λ (o : Tracked). track o (it ∷ [])) (sym same) ∙ last.2 in
     let stepped = goes_ok (step it.0 objects it.1) parts.0 goes in
     let none : refusal_of it.0 (step it.0 objects it.1) ≡ None =
-        ap (λ (o : Tracked). refusal_of it.0 (step it.0 o it.1)) (sym (front_objects front objects tracked)) ∙ passes.none_refused front rest it refl in (
+    ap (λ (o : Tracked). refusal_of it.0 (step it.0 o it.1)) (sym (front_objects front objects tracked)) ∙ passes.none_refused front rest it refl in (
       record { done = stepped.0; steps = stepped.1; no_handle = not_refused it.0 _ stepped.0 stepped.1 none },
       all_at rest (front ++ it ∷ []) stepped.0.objects (subst Passes one passes) (parts.1 ∙ ap (λ (o : Tracked). Ok o) (sym stepped.2)),
     )
@@ -125,19 +124,19 @@ from_prints way [] objects all = tt
 from_prints way (it ∷ rest) objects all =
     let at = all.0 in
     subst (λ (told : Result Step ObjectFault). PrintsAll way (received_then told way it (λ next. received_from way next rest))) (sym at.steps)
-      (one_prints way at.done.passed.interface it (received_from way at.done.objects rest) (printed it.0 it.1 at.done (passed-by-the-table it.0 objects it.1 at.done at.steps) at.no_handle) (from_prints way rest at.done.objects all.1))
+    (one_prints way at.done.passed.interface it (received_from way at.done.objects rest) (printed it.0 it.1 at.done (passed-by-the-table it.0 objects it.1 at.done at.steps) at.no_handle) (from_prints way rest at.done.objects all.1))
 
 -- all that is received of an order that passes can be printed
 pub received_prints : (way : Way) (order : List (Way × List ℕ)) → Passes order → PrintsAll way (received_in way order)
 received_prints way order passes = from_prints way order first_objects (all_at order [] first_objects passes refl)
 
 -- so it is with what a replay reports
-pub compositor_prints : (steps : List Step) (line : ℕ → Line) (told : Result Replayed AllocError) → IfOk told (λ replayed. Replays steps line replayed) → IfOk told (λ replayed. PrintsAll Request replayed.compositor.received.items)
+pub compositor_prints : (steps : List ScriptStep) (line : ℕ → Line) (told : Result Replayed AllocError) → IfOk told (λ replayed. Replays steps line replayed) → IfOk told (λ replayed. PrintsAll Request replayed.compositor.received.items)
 compositor_prints steps line (Ok replayed) is =
-    subst (PrintsAll Request) (sym is.compositor.received) (received_prints Request is.pair.far.order (ended_holds steps is.pair replayed.end (run_ended steps is.pair replayed.end is.runs)).far_passes)
+    subst (PrintsAll Request) (sym is.compositor.received) (received_prints Request is.pair.far.order (runs_hold steps is.pair replayed.end is.runs).far_passes)
 compositor_prints steps line (Err error) is = is
 
-pub application_prints : (steps : List Step) (line : ℕ → Line) (told : Result Replayed AllocError) → IfOk told (λ replayed. Replays steps line replayed) → IfOk told (λ replayed. PrintsAll Event replayed.application.received.items)
+pub application_prints : (steps : List ScriptStep) (line : ℕ → Line) (told : Result Replayed AllocError) → IfOk told (λ replayed. Replays steps line replayed) → IfOk told (λ replayed. PrintsAll Event replayed.application.received.items)
 application_prints steps line (Ok replayed) is =
-    subst (PrintsAll Event) (sym is.application.received) (received_prints Event is.pair.near.order (ended_holds steps is.pair replayed.end (run_ended steps is.pair replayed.end is.runs)).near_passes)
+    subst (PrintsAll Event) (sym is.application.received) (received_prints Event is.pair.near.order (runs_hold steps is.pair replayed.end is.runs).near_passes)
 application_prints steps line (Err error) is = is

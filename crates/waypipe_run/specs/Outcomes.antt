@@ -1,15 +1,13 @@
 -- What a replay comes to: its status, its last line, and the sentences that hold of it, over the bytes of the script and what the link tells. The messages are those of the Wayland protocol.
-use Rattle.std.specs.Prelude.{◌≡◌, ◌≢◌, ℕ, ◌+◌, ◌<◌, if◌then◌else◌, List, [], ◌∷◌, ◌++◌, Option, Some, None, Result, Ok, Err, length}
-use Rattle.transfer_frames.specs.Laws.{NoFrame}
+use Rattle.std.specs.Prelude.{◌≡◌, ◌≢◌, ℕ, if◌then◌else◌, List, ◌++◌, length}
 use Rattle.transfer_frames.specs.declared.cause.FrameCause.{FrameCause}
 use Rattle.transfer_frames.specs.declared.cause.FrameCause.TheVariants.{PeerMessage, RidCount}
 use Rattle.wl_objects.specs.Registry.{first_state, visible}
-use Rattle.wl_tables.specs.declared.way.Way.TheVariants.{Request, Event}
 use Rattle.wp_outside.specs.Lines.{Line, IsFront, fresh_line}
 use Rattle.wp_outside.specs.declared.kinds.Side.{Side}
 use Rattle.wp_outside.specs.declared.kinds.Side.TheVariants as side
 use Rattle.script_lang.specs.declared.steps.Step.{Step}
-use Rattle.replay_model.specs.Halves.{Half, Pair, half_of, taken_by, given_by, heard_way}
+use Rattle.replay_model.specs.Halves.{Pair, half_of, taken_by, given_by, heard_way}
 use Rattle.replay_model.specs.Headline.{Holds, EndsWith}
 use Rattle.replay_model.specs.Link.{Tells}
 use Rattle.replay_model.specs.Orders.{Allowed}
@@ -18,7 +16,6 @@ use Rattle.replay_model.specs.Rows.{frames_of}
 use Rattle.replay_model.specs.Runs.{Runs}
 use Rattle.replay_model.specs.declared.ends.End.{End}
 use Rattle.replay_model.specs.declared.ends.End.TheVariants as ends
-use Rattle.replay_model.specs.declared.ends.Fault.{Fault}
 use Rattle.replay_model.specs.declared.ends.Fault.TheVariants as faults
 use Rattle.replay_model.specs.declared.ends.Refusal.{Refusal}
 use Rattle.replay_model.specs.declared.ends.Refusal.TheVariants as refusals

@@ -1,6 +1,6 @@
 -- What the program's call owes, status by status: over the bytes that were read, the bytes that were written and what the
 -- link tells. The messages are those of the Wayland wire format.
-use Rattle.std.specs.Prelude.{◌≡◌, ◌⊎◌, ℕ, ◌+◌, ◌<◌, ◌≤◌, Bool, List, [], ◌∷◌, ◌++◌, Option, Some, None, Result, Ok, Err, length, String}
+use Rattle.std.specs.Prelude.{◌≡◌, ◌⊎◌, ℕ, ◌<◌, ◌≤◌, Bool, List, [], ◌++◌, Option, Some, None, Ok, Err, length, String}
 use Rattle.std.specs.List.{flat_map}
 use Rattle.std.specs.declared.alloc.Global.{Global}
 use Rattle.transfer_frames.specs.Grammar.{spelling}

@@ -1,0 +1,345 @@
+-- The status follows from what the program's call owes.
+use Rattle.std.proofs.Common.{◌≡◌, ℕ, ◌<◌, ◌≤◌, Bool, true, false, cond, ltb, List, [], ◌∷◌, ◌++◌, Option, Some, None, Result, Ok, Err, ◌⊎◌, inl, inr, ⊎_elim, length, refl, ap, ◌∙◌, sym, subst, arith, rules, tests, String, string_bytes, codes, slice_index, nat_eq}
+use Rattle.std.specs.List.{flat_map}
+use Rattle.std.specs.declared.alloc.Global.{Global}
+use Rattle.transfer_frames.specs.Grammar.{spelling}
+use Rattle.transfer_frames.specs.Front.{front}
+use Rattle.transfer_frames.specs.declared.frame.Frame.{Frame}
+use Rattle.transfer_frames.specs.declared.cause.FrameCause.{FrameCause}
+use Rattle.frame_stream.specs.Listing.{Lists}
+use Rattle.frame_stream.proofs.ListingLaws.{listed_once}
+use Rattle.std.proofs.lemmas.List.{append-nil}
+use Rattle.script_lang.specs.Grammar.{steps_of}
+use Rattle.script_lang.specs.declared.causes.ScriptCause.{ScriptCause}
+use Rattle.script_lang.specs.declared.causes.ScriptRead.{ScriptRead}
+use Rattle.script_lang.specs.declared.causes.ScriptRead.TheVariants as read
+use Rattle.script_lang.specs.declared.steps.Step.{Step}
+use Rattle.replay_model.specs.Halves.{Half, Pair, given_by, heard_way, of_way, own_way, taken_by}
+use Rattle.wl_tables.specs.declared.way.Way.{Way}
+use Rattle.replay_model.specs.RunLaws.{AllPass}
+use Rattle.replay_model.specs.Rows.{frames_of}
+use Rattle.replay_model.specs.Runs.{Runs}
+use Rattle.replay_model.specs.declared.ends.End.{End}
+use Rattle.replay_model.specs.declared.ends.End.TheVariants as ends
+use Rattle.replay_model.specs.declared.ends.Fault.{Fault}
+use Rattle.replay_model.specs.declared.ends.Fault.TheVariants as faults
+use Rattle.replay_model.proofs.Claims.{no_fault_comes, one_run}
+use Rattle.wp_outside.specs.Counts.{Rose}
+use Rattle.wp_outside.specs.Lines.{Line}
+use Rattle.wp_outside.specs.Pieces.{IfTold}
+use Rattle.wp_outside.specs.declared.kinds.Side.{Side}
+use Rattle.wp_outside.specs.declared.kinds.Side.TheVariants.{Near, Far}
+use Rattle.waypipe_run.specs.Built.{first_unbuilt}
+use Rattle.waypipe_run.specs.Moving.{Took, MOST_INPUT}
+use Rattle.waypipe_run.specs.Outcomes.{status_of, reader_of, frame_cause, peer_cause}
+use Rattle.waypipe_run.specs.Top.{InputState, OutputState, IsAnswer, IsLimit, Tells, TellsText, Printed, Outcome, Refused, Reported, IsScript, IsListed, TellsStream}
+use Rattle.waypipe_run.specs.TopLaws.{Due, DueOfBuilt, DueOfRead, RunsTo, OneIsDue, status_of_front, status_of_stream, OtherWords, StatusOfInput, StatusOfStream, GoesThrough}
+use Rattle.waypipe_run.specs.Words.{Asks, IsReplay, IsFrames, IsCommand}
+use Rattle.waypipe_run.specs.declared.words.Command.{Command}
+use Rattle.waypipe_run.specs.declared.words.Command.TheVariants.{Replay, Frames}
+use Rattle.waypipe_run.specs.declared.causes.Limit.{Limit}
+use Rattle.waypipe_run.specs.declared.causes.Limit.TheVariants as limits
+use Rattle.waypipe_run.specs.declared.causes.PeerCause.{PeerCause}
+use Rattle.waypipe_run.specs.declared.status.Reader.{Reader}
+use Rattle.waypipe_run.specs.declared.status.Reader.TheVariants as reader
+use Rattle.waypipe_run.specs.declared.status.Status.{Status}
+use Rattle.waypipe_run.specs.declared.status.Status.TheVariants as status
+
+none_some : (all : List ℕ) → None ≡ Some all → ⊥
+none_some all e = cc
+
+some_same : (a b : List ℕ) → Some a ≡ Some b → a ≡ b
+some_same a b e = cc
+
+not_above : (bytes : List ℕ) → length bytes ≤ MOST_INPUT → ltb MOST_INPUT (length bytes) ≡ false
+not_above bytes few = search (rules, tests)
+
+above : (bytes : List ℕ) → MOST_INPUT < length bytes → ltb MOST_INPUT (length bytes) ≡ true
+above bytes many = search (rules, tests)
+
+true_false : true ≡ false → ⊥
+true_false e = cc
+
+-- no words are two commands
+not_both : (text : List ℕ) → text ≡ codes "replay" → text ≡ codes "frames" → ⊥
+not_both text a b = true_false (ap (λ (t : List ℕ). nat_eq (slice_index t 0) 114) (sym a ∙ b))
+
+two_commands : (texts : Bool) (words : List (String Global)) → IsReplay texts words → IsFrames words → ⊥
+two_commands false [] a b = a
+two_commands false (word ∷ []) a b = not_both (string_bytes word) a.0 b.0
+two_commands false (word ∷ other ∷ others) a b = a.1
+two_commands true [] a b = a
+two_commands true (word ∷ []) a b = a.1
+two_commands true (word ∷ other ∷ others) a b = b.1
+
+is_command : (texts : Bool) (words : List (String Global)) → IsReplay texts words → IsCommand words
+is_command false words is = inl is
+is_command true words is = inr (inl is)
+
+-- what was read whole is what was left
+read_left : (left rest : Option (List ℕ)) (bytes all : List ℕ) → left ≡ Some all → Took left rest bytes → IfTold rest (λ r. r ≡ []) → bytes ≡ all
+read_left None rest bytes all is taken none = absurd (none_some all is)
+read_left (Some left) None bytes all is taken none = absurd taken
+read_left (Some left) (Some rest) bytes all is taken none = sym (taken ∙ ap (λ r. bytes ++ r) none ∙ append-nil bytes) ∙ some_same left all is
+
+-- ---- what an input calls for
+
+-- a text that is a script all of whose lines are run
+due_of_run : (texts : Bool) (bytes : List ℕ) (steps : List Step) (answer : Status) (line : ℕ → Line) (text : List ℕ) → IsScript bytes steps → Reported texts steps answer line text → DueOfRead (steps_of bytes) answer
+due_of_run texts bytes steps answer line text script is =
+    subst (λ (told : Result (List Step) ScriptRead). DueOfRead told answer) (sym script.spelled)
+    (subst (λ (it : Option ℕ). DueOfBuilt it steps answer) (sym script.built) (record { pair = is.pair; end = is.end; runs = is.ran.runs; answered = is.answered }))
+
+due_of_refused : (bytes : List ℕ) (line : ℕ) (cause : ScriptCause) → Refused bytes line cause → DueOfRead (steps_of bytes) (status.Script line cause)
+due_of_refused bytes line cause is = ⊎_elim
+    (λ fault. subst (λ (told : Result (List Step) ScriptRead). DueOfRead told (status.Script line cause)) (sym fault) refl)
+    (λ unbuilt. subst (λ (told : Result (List Step) ScriptRead). DueOfRead told (status.Script line cause)) (sym unbuilt.1)
+    (subst (λ (it : Option ℕ). DueOfBuilt it unbuilt.0 (status.Script line cause)) (sym unbuilt.2) (ap (λ (c : ScriptCause). status.Script line c) unbuilt.3)))
+    is
+
+-- an answer to a text is the status that the text calls for
+text_status : (texts : Bool) (answer : Status) (bytes : List ℕ) (before after : ℕ → Line) (text : List ℕ) → TellsText texts answer bytes before after text → DueOfRead (steps_of bytes) answer
+text_status texts status.Done bytes before after text told = due_of_run texts bytes told.steps status.Done after text told.script told.reported
+text_status texts (status.Peer side index cause) bytes before after text told = due_of_run texts bytes told.steps (status.Peer side index cause) after text told.script told.reported
+text_status texts (status.Frame whose connection place cause) bytes before after text told = due_of_run texts bytes told.steps (status.Frame whose connection place cause) after text told.script told.reported
+text_status texts (status.Script line cause) bytes before after text told = due_of_refused bytes line cause told.refused
+text_status texts (status.Limit limits.Lines) bytes before after text told =
+    subst (λ (it : Result (List Step) ScriptRead). DueOfRead it (status.Limit limits.Lines)) (sym told.above) refl
+text_status texts (status.Limit limits.File) bytes before after text told = absurd told
+text_status texts (status.Limit limits.Files) bytes before after text told = absurd told
+text_status texts (status.Limit limits.Trail) bytes before after text told = absurd told
+text_status texts (status.Limit limits.Connections) bytes before after text told = absurd told
+text_status texts (status.Limit limits.Input) bytes before after text told = absurd told
+text_status texts status.Memory bytes before after text told = absurd told
+text_status texts status.Usage bytes before after text told = absurd told
+text_status texts status.ReadFault bytes before after text told = absurd told
+text_status texts status.WriteFault bytes before after text told = absurd told
+text_status texts status.LinkFault bytes before after text told = absurd told
+text_status texts (status.LinkDiffers connection direction place wrote read) bytes before after text told = absurd told
+
+-- an answer to an input that is told
+answer_status : (answer : Status) (words : List (String Global)) (old new : InputState) (before after : ℕ → Line) (text all : List ℕ) → IsAnswer answer words old new before after text → old.left ≡ Some all → Due all answer
+answer_status answer words old new before after text all is told =
+    let same = read_left old.left new.left is.bytes all told is.read.taken is.read.nothing_left in
+    subst (λ (b : List ℕ). Due b answer) same (inr (is.read.bounded, text_status is.texts answer is.bytes before after text is.told))
+
+-- a limit that was met
+limit_status : (which : Limit) (words : List (String Global)) (old new : InputState) (before after : ℕ → Line) (text all : List ℕ) → IsLimit which words old new before after text → old.left ≡ Some all → Due all (status.Limit which)
+limit_status which words old new before after text all is told =
+    let many : MOST_INPUT < length all = subst (λ (o : Option (List ℕ)). IfTold o (λ left. MOST_INPUT < length left)) told is.above in
+    inl (many, ap status.Limit is.input)
+
+-- the status of the command where its whole text was written
+printed_status : (answer : Status) (texts : Bool) (words : List (String Global)) (old new : InputState) (before after : ℕ → Line) (text all : List ℕ) → Tells answer words old new before after text → IsReplay texts words → old.left ≡ Some all
+    → Due all answer ⊎ ((answer ≡ status.ReadFault) × Rose old.faults new.faults)
+printed_status status.Done texts words old new before after text all told command left = ⊎_elim
+    (λ is. inl (answer_status status.Done words old new before after text all is left))
+    (λ listed. absurd (two_commands texts words command listed.command))
+    told
+printed_status (status.Frame whose connection place cause) texts words old new before after text all told command left = ⊎_elim
+    (λ is. inl (answer_status (status.Frame whose connection place cause) words old new before after text all is left))
+    (λ listed. absurd (two_commands texts words command listed.command))
+    told
+printed_status (status.Peer side index cause) texts words old new before after text all told command left = inl (answer_status (status.Peer side index cause) words old new before after text all told left)
+printed_status (status.Script line cause) texts words old new before after text all told command left = inl (answer_status (status.Script line cause) words old new before after text all told left)
+printed_status (status.Limit which) texts words old new before after text all told command left = ⊎_elim
+    (λ is. inl (limit_status which words old new before after text all is left))
+    (λ is. inl (answer_status (status.Limit which) words old new before after text all is left))
+    told
+printed_status status.ReadFault texts words old new before after text all told command left = inr (refl, told.rose)
+printed_status status.Usage texts words old new before after text all told command left = absurd (told.no_command (is_command texts words command))
+printed_status status.Memory texts words old new before after text all told command left = absurd told
+printed_status status.WriteFault texts words old new before after text all told command left = absurd told
+printed_status status.LinkFault texts words old new before after text all told command left = absurd told
+printed_status (status.LinkDiffers connection direction place wrote read) texts words old new before after text all told command left = absurd told
+
+-- the status of other words where its whole text was written
+answered : (answer : Status) (words : List (String Global)) (old new : InputState) (before after : ℕ → Line) (text : List ℕ) → IsAnswer answer words old new before after text → IsCommand words
+answered answer words old new before after text is = is_command is.texts words is.command
+
+asked : (command : Command) (words : List (String Global)) → Asks command words → IsCommand words
+asked (Replay texts) words asks = is_command texts words asks
+asked Frames words asks = inr (inr asks)
+
+printed_usage : (answer : Status) (words : List (String Global)) (old new : InputState) (before after : ℕ → Line) (text : List ℕ) → Tells answer words old new before after text → (IsCommand words → ⊥) → answer ≡ status.Usage
+printed_usage status.Done words old new before after text told other = ⊎_elim
+    (λ is. absurd (other (answered status.Done words old new before after text is)))
+    (λ listed. absurd (other (inr (inr listed.command))))
+    told
+printed_usage (status.Frame whose connection place cause) words old new before after text told other = ⊎_elim
+    (λ is. absurd (other (answered (status.Frame whose connection place cause) words old new before after text is)))
+    (λ listed. absurd (other (inr (inr listed.command))))
+    told
+printed_usage (status.Peer side index cause) words old new before after text told other = absurd (other (answered (status.Peer side index cause) words old new before after text told))
+printed_usage (status.Script line cause) words old new before after text told other = absurd (other (answered (status.Script line cause) words old new before after text told))
+printed_usage (status.Limit which) words old new before after text told other = ⊎_elim
+    (λ is. absurd (other (asked is.command words is.asks)))
+    (λ is. absurd (other (answered (status.Limit which) words old new before after text is)))
+    told
+printed_usage status.ReadFault words old new before after text told other = absurd (other (asked told.command words told.asks))
+printed_usage status.Usage words old new before after text told other = refl
+printed_usage status.Memory words old new before after text told other = absurd told
+printed_usage status.WriteFault words old new before after text told other = absurd told
+printed_usage status.LinkFault words old new before after text told other = absurd told
+printed_usage (status.LinkDiffers connection direction place wrote read) words old new before after text told other = absurd told
+
+-- ---- what a stream calls for
+
+-- an answer to a stream is the status that the stream calls for
+stream_told : (answer : Status) (bytes text : List ℕ) (frames : List Frame) (rest : List ℕ) → TellsStream answer bytes text → Lists bytes frames rest → status_of_front (front rest) (length (flat_map spelling frames)) ≡ answer
+stream_told status.Done bytes text frames rest told lists =
+    let once = listed_once bytes told.frames frames told.rest rest told.lists lists in
+    ap (λ (r : List ℕ). status_of_front (front r) (length (flat_map spelling frames))) (sym once.1)
+    ∙ ap (λ f. status_of_front f (length (flat_map spelling frames))) told.waits
+stream_told (status.Frame whose connection place cause) bytes text frames rest told lists =
+    let once = listed_once bytes told.frames frames told.rest rest told.lists lists in
+    ap (λ (r : List ℕ). status_of_front (front r) (length (flat_map spelling frames))) (sym once.1)
+    ∙ ap (λ f. status_of_front f (length (flat_map spelling frames))) told.fault
+    ∙ ap (λ (fs : List Frame). status.Frame reader.Input 0 (length (flat_map spelling fs)) cause) (sym once.0)
+    ∙ ap (λ (p : ℕ). status.Frame reader.Input 0 p cause) (sym told.behind)
+    ∙ ap (λ (c : ℕ). status.Frame reader.Input c place cause) (sym told.no_connection)
+    ∙ ap (λ (r : Reader). status.Frame r connection place cause) (sym told.input)
+stream_told status.Memory bytes text frames rest told lists = absurd told
+stream_told status.Usage bytes text frames rest told lists = absurd told
+stream_told status.ReadFault bytes text frames rest told lists = absurd told
+stream_told status.WriteFault bytes text frames rest told lists = absurd told
+stream_told (status.Script line cause) bytes text frames rest told lists = absurd told
+stream_told (status.Peer side index cause) bytes text frames rest told lists = absurd told
+stream_told (status.Limit which) bytes text frames rest told lists = absurd told
+stream_told status.LinkFault bytes text frames rest told lists = absurd told
+stream_told (status.LinkDiffers connection direction place wrote read) bytes text frames rest told lists = absurd told
+
+-- an answer to a stream that is told
+listed_status : (answer : Status) (words : List (String Global)) (old new : InputState) (before after : ℕ → Line) (text all : List ℕ) (frames : List Frame) (rest : List ℕ) → IsListed answer words old new before after text → old.left ≡ Some all → Lists all frames rest → answer ≡ status_of_stream all frames rest
+listed_status answer words old new before after text all frames rest is told lists =
+    let same = read_left old.left new.left is.bytes all told is.read.taken is.read.nothing_left in
+    let few : length all ≤ MOST_INPUT = subst (λ (b : List ℕ). length b ≤ MOST_INPUT) same is.read.bounded in
+    let own : TellsStream answer all text = subst (λ (b : List ℕ). TellsStream answer b text) same is.told in
+    sym (ap (λ b. cond b (status.Limit limits.Input) (status_of_front (front rest) (length (flat_map spelling frames)))) (not_above all few) ∙ stream_told answer all text frames rest own lists)
+
+limit_stream : (which : Limit) (words : List (String Global)) (old new : InputState) (before after : ℕ → Line) (text all : List ℕ) (frames : List Frame) (rest : List ℕ) → IsLimit which words old new before after text → old.left ≡ Some all → status.Limit which ≡ status_of_stream all frames rest
+limit_stream which words old new before after text all frames rest is told =
+    let many : MOST_INPUT < length all = subst (λ (o : Option (List ℕ)). IfTold o (λ left. MOST_INPUT < length left)) told is.above in
+    ap status.Limit is.input ∙ sym (ap (λ b. cond b (status.Limit limits.Input) (status_of_front (front rest) (length (flat_map spelling frames)))) (above all many))
+
+-- the status of the listing of a stream where its whole text was written
+stream_status : (answer : Status) (words : List (String Global)) (old new : InputState) (before after : ℕ → Line) (text all : List ℕ) (frames : List Frame) (rest : List ℕ) → Tells answer words old new before after text → IsFrames words → old.left ≡ Some all → Lists all frames rest
+    → (answer ≡ status_of_stream all frames rest) ⊎ ((answer ≡ status.ReadFault) × Rose old.faults new.faults)
+stream_status status.Done words old new before after text all frames rest told command left lists = ⊎_elim
+    (λ is. absurd (two_commands is.texts words is.command command))
+    (λ listed. inl (listed_status status.Done words old new before after text all frames rest listed left lists))
+    told
+stream_status (status.Frame whose connection place cause) words old new before after text all frames rest told command left lists = ⊎_elim
+    (λ is. absurd (two_commands is.texts words is.command command))
+    (λ listed. inl (listed_status (status.Frame whose connection place cause) words old new before after text all frames rest listed left lists))
+    told
+stream_status (status.Peer side index cause) words old new before after text all frames rest told command left lists = absurd (two_commands told.texts words told.command command)
+stream_status (status.Script line cause) words old new before after text all frames rest told command left lists = absurd (two_commands told.texts words told.command command)
+stream_status (status.Limit which) words old new before after text all frames rest told command left lists = ⊎_elim
+    (λ is. inl (limit_stream which words old new before after text all frames rest is left))
+    (λ is. absurd (two_commands is.texts words is.command command))
+    told
+stream_status status.ReadFault words old new before after text all frames rest told command left lists = inr (refl, told.rose)
+stream_status status.Usage words old new before after text all frames rest told command left lists = absurd (told.no_command (inr (inr command)))
+stream_status status.Memory words old new before after text all frames rest told command left lists = absurd told
+stream_status status.WriteFault words old new before after text all frames rest told command left lists = absurd told
+stream_status status.LinkFault words old new before after text all frames rest told command left lists = absurd told
+stream_status (status.LinkDiffers connection direction place wrote read) words old new before after text all frames rest told command left lists = absurd told
+
+-- ---- the laws
+
+-- a status is want of memory, or a write failed, or its whole text was written
+outcome_cases : (answer : Status) (words : List (String Global)) (old new : InputState) (before after : ℕ → Line) (out written : OutputState) → Outcome answer words old new before after out written
+    → (answer ≡ status.Memory) ⊎ (((answer ≡ status.WriteFault) × Rose out.faults written.faults) ⊎ Printed answer words old new before after out written)
+outcome_cases status.Memory words old new before after out written is = inl refl
+outcome_cases status.WriteFault words old new before after out written is = inr (inl (refl, is.rose))
+outcome_cases status.Done words old new before after out written is = inr (inr is)
+outcome_cases status.Usage words old new before after out written is = inr (inr is)
+outcome_cases status.ReadFault words old new before after out written is = inr (inr is)
+outcome_cases (status.Script line cause) words old new before after out written is = inr (inr is)
+outcome_cases (status.Peer side index cause) words old new before after out written is = inr (inr is)
+outcome_cases (status.Frame reader connection place cause) words old new before after out written is = inr (inr is)
+outcome_cases (status.Limit which) words old new before after out written is = inr (inr is)
+outcome_cases status.LinkFault words old new before after out written is = inr (inr is)
+outcome_cases (status.LinkDiffers connection direction place wrote read) words old new before after out written is = inr (inr is)
+
+pub other_words : OtherWords
+other_words answer words old new before after out written outcome other = ⊎_elim
+    (λ memory. inr (inl memory))
+    (λ rest. ⊎_elim (λ failed. inr (inr failed)) (λ printed. inl (printed_usage answer words old new before after printed.text printed.told other)) rest)
+    (outcome_cases answer words old new before after out written outcome)
+
+pub status_decided : StatusOfInput
+status_decided texts answer words old new before after out written bytes outcome command left = ⊎_elim
+    (λ memory. inr (inl (inl memory)))
+    (λ rest. ⊎_elim
+    (λ failed. inr (inl (inr failed)))
+    (λ printed. ⊎_elim (λ is. inl is) (λ fault. inr (inr fault)) (printed_status answer texts words old new before after printed.text bytes printed.told command left))
+    rest)
+    (outcome_cases answer words old new before after out written outcome)
+
+pub stream_decided : StatusOfStream
+stream_decided answer words old new before after out written bytes frames rest outcome command left lists = ⊎_elim
+    (λ memory. inr (inl (inl memory)))
+    (λ others. ⊎_elim
+    (λ failed. inr (inl (inr failed)))
+    (λ printed. ⊎_elim (λ is. inl is) (λ fault. inr (inr fault)) (stream_status answer words old new before after printed.text bytes frames rest printed.told command left lists))
+    others)
+    (outcome_cases answer words old new before after out written outcome)
+
+-- one input, one status: a script's runs all end alike
+same_peer : (side : Side) (cause : PeerCause) (a b : Half) → a.order ≡ b.order → status.Peer side (length (taken_by side a)) cause ≡ status.Peer side (length (taken_by side b)) cause
+same_peer side cause a b same = ap (λ (o : List (Way × List ℕ)). status.Peer side (length (of_way (own_way side) o)) cause) same
+
+same_frame : (side : Side) (cause : FrameCause) (a b : Half) → a.order ≡ b.order → status.Frame (reader_of side) 1 (length (frames_of (given_by side a))) cause ≡ status.Frame (reader_of side) 1 (length (frames_of (given_by side b))) cause
+same_frame side cause a b same = ap (λ (o : List (Way × List ℕ)). status.Frame (reader_of side) 1 (length (frames_of (of_way (heard_way side) o))) cause) same
+
+same_status : (end : End) (pair there : Pair) → pair.near.order ≡ there.near.order → pair.far.order ≡ there.far.order → status_of pair end ≡ status_of there end
+same_status ends.Drained pair there near far = refl
+same_status ends.Stopped pair there near far = refl
+same_status (ends.Fault (faults.Peer Near cause)) pair there near far = same_peer Near (peer_cause cause) pair.near there.near near
+same_status (ends.Fault (faults.Peer Far cause)) pair there near far = same_peer Far (peer_cause cause) pair.far there.far far
+same_status (ends.Fault (faults.Frame Near cause)) pair there near far = same_frame Near (frame_cause cause) pair.near there.near near
+same_status (ends.Fault (faults.Frame Far cause)) pair there near far = same_frame Far (frame_cause cause) pair.far there.far far
+
+one_of_runs : (steps : List Step) (one other : Status) → RunsTo steps one → RunsTo steps other → one ≡ other
+one_of_runs steps one other a b =
+    let same = one_run steps a.pair b.pair a.end b.end a.runs b.runs in
+    a.answered ∙ ap (status_of a.pair) same.0 ∙ same_status b.end a.pair b.pair same.1 same.2 ∙ sym b.answered
+
+one_of_built : (line : Option ℕ) (steps : List Step) (one other : Status) → DueOfBuilt line steps one → DueOfBuilt line steps other → one ≡ other
+one_of_built (Some line) steps one other a b = a ∙ sym b
+one_of_built None steps one other a b = one_of_runs steps one other a b
+
+one_of_read : (told : Result (List Step) ScriptRead) (one other : Status) → DueOfRead told one → DueOfRead told other → one ≡ other
+one_of_read (Ok steps) one other a b = one_of_built (first_unbuilt steps) steps one other a b
+one_of_read (Err (read.Fault line cause)) one other a b = a ∙ sym b
+one_of_read (Err read.Lines) one other a b = a ∙ sym b
+one_of_read (Err read.Memory) one other a b = absurd a
+
+above_within : (n : ℕ) → MOST_INPUT < n → n ≤ MOST_INPUT → ⊥
+above_within n many few = absurd (omega arith)
+
+pub one_is_due : OneIsDue
+one_is_due bytes one other a b = ⊎_elim
+    (λ over. ⊎_elim (λ above. over.1 ∙ sym above.1) (λ within. absurd (above_within (length bytes) over.0 within.0)) b)
+    (λ here. ⊎_elim (λ above. absurd (above_within (length bytes) above.0 here.0)) (λ within. one_of_read (steps_of bytes) one other here.1 within.1) b)
+    a
+
+-- the status of a run that meets no fault
+no_fault_done : (end : End) (pair : Pair) → ((fault : Fault) → end ≡ ends.Fault fault → ⊥) → status_of pair end ≡ status.Done
+no_fault_done ends.Drained pair none = refl
+no_fault_done ends.Stopped pair none = refl
+no_fault_done (ends.Fault fault) pair none = absurd (none fault refl)
+
+done_of_script : (bytes : List ℕ) (steps : List Step) (answer : Status) → IsScript bytes steps → AllPass steps → DueOfRead (steps_of bytes) answer → answer ≡ status.Done
+done_of_script bytes steps answer script all due =
+    let built = subst (λ (told : Result (List Step) ScriptRead). DueOfRead told answer) script.spelled due in
+    let run : RunsTo steps answer = subst (λ (it : Option ℕ). DueOfBuilt it steps answer) script.built built in
+    run.answered ∙ no_fault_done run.end run.pair (λ fault is. no_fault_comes steps run.pair fault all (subst (Runs steps run.pair) is run.runs))
+
+pub goes_through : GoesThrough
+goes_through texts answer words old new before after out written bytes steps outcome command left few script all no_read no_write = ⊎_elim
+    (λ due. ⊎_elim (λ above. absurd (above_within (length bytes) above.0 few)) (λ within. inl (done_of_script bytes steps answer script all within.1)) due)
+    (λ others. ⊎_elim (λ hindered. ⊎_elim (λ memory. inr memory) (λ failed. absurd (no_write failed.1)) hindered) (λ fault. absurd (no_read fault.1)) others)
+    (status_decided texts answer words old new before after out written bytes outcome command left)
