@@ -1,6 +1,6 @@
 //! The call as the program makes it, over sources, sinks and a link in memory.
+mod both_ways;
 mod listings;
-mod rows;
 
 use crate::causes::{Limit, PeerCause};
 use crate::plain::run_plain;
