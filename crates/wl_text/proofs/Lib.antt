@@ -1,0 +1,5 @@
+pub mod ArgValuesLemmas
+pub mod Digits
+pub mod Items
+pub mod PrintLemmas
+pub mod TextArgsLemmas
