@@ -6,3 +6,4 @@ pub mod Decimals
 pub mod Enclosed
 pub mod Front
 pub mod Text
+pub mod TextLaws
