@@ -1,5 +1,5 @@
 -- What is written of an argument is read as that argument.
-use Rattle.std.proofs.Common.{◌≡◌, ◌≢◌, ℕ, ℤ, pos, negsuc, ◌+◌, ◌^◌, ◌<◌, ◌≤◌, ◌==◌, List, [], ◌∷◌, ◌++◌, length, Bool, true, false, cond, codes, Option, Some, None, w32, FitsSigned, refl, sym, ap, ◌∙◌, subst, arith, append_assoc}
+use Rattle.std.proofs.Common.{◌≡◌, ℕ, ℤ, ◌^◌, ◌<◌, ◌==◌, List, [], ◌∷◌, ◌++◌, Bool, true, false, codes, Option, Some, None, w32, FitsSigned, refl, sym, ap, ◌∙◌, subst, arith, append_assoc}
 use Rattle.std.proofs.lemmas.Bool.{eqb-true}
 use Rattle.std.specs.Fmt.{decimal, signed_decimal}
 use Rattle.wl_wire.specs.declared.arguments.Arg.{Arg}
@@ -9,11 +9,10 @@ use Rattle.wl_wire.specs.declared.signature.ArgKind.TheVariants as kind
 use Rattle.wl_wire.specs.ArgLaws.{FitsSlot}
 use Rattle.wl_text.specs.declared.arg_reading.TextArg.{TextArg}
 use Rattle.wl_text.specs.declared.enclosed.Enclosure.TheVariants.{Quotes, Brackets}
-use Rattle.wl_text.specs.Front.{Read, ◌>>=◌, behind}
-use Rattle.wl_text.specs.Decimals.{number_at, signed_at}
-use Rattle.wl_text.specs.Enclosed.{enclosed_text, enclosed_at, closing, item_text}
-use Rattle.wl_text.specs.ArgTexts.{object_text, new_text, handle_text, arg_text, handles_behind}
-use Rattle.wl_text.specs.ArgReading.{plain, null_at, int_at, uint_at, fixed_at, quoted_at, string_from, id_from, object_from, new_id_at, new_at, bound_at, bind_at, array_at, handle_at, arg_at, with_handle}
+use Rattle.wl_text.specs.Front.{behind}
+use Rattle.wl_text.specs.Enclosed.{enclosed_text}
+use Rattle.wl_text.specs.ArgTexts.{object_text, new_text, arg_text}
+use Rattle.wl_text.specs.ArgReading.{plain, int_at, uint_at, fixed_at, quoted_at, new_id_at, new_at, bound_at, bind_at, array_at, handle_at, arg_at}
 use Rattle.wl_text.proofs.FrontLaws.{behind-complete, behind-other}
 use Rattle.wl_text.proofs.DecimalLaws.{NoDigit, number-complete, signed-complete}
 use Rattle.wl_text.proofs.EnclosedLaws.{enclosed-complete}

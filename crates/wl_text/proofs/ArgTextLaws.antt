@@ -1,12 +1,12 @@
 -- An argument is read just as it is written.
-use Rattle.std.proofs.Common.{◌≡◌, ◌≢◌, ℕ, ℤ, ◌+◌, ◌^◌, ◌<◌, ◌≤◌, ◌==◌, List, [], ◌∷◌, ◌++◌, length, Bool, true, false, cond, codes, Option, Some, None, w32, FitsSigned, refl, sym, ap, ◌∙◌, subst, arith, append_assoc}
+use Rattle.std.proofs.Common.{◌≡◌, ◌≢◌, ℕ, ℤ, ◌^◌, ◌<◌, ◌==◌, List, [], ◌∷◌, ◌++◌, length, Bool, true, false, cond, codes, Option, Some, None, w32, FitsSigned, refl, sym, ap, ◌∙◌, subst, arith, append_assoc}
 use Rattle.std.proofs.lemmas.Bool.{eq-eqb}
 use Rattle.std.specs.Fmt.{decimal, signed_decimal}
 use Rattle.wl_wire.specs.declared.arguments.Arg.{Arg}
 use Rattle.wl_wire.specs.declared.arguments.Arg.TheVariants as arg
 use Rattle.wl_wire.specs.declared.signature.ArgKind.{ArgKind}
 use Rattle.wl_wire.specs.declared.signature.ArgKind.TheVariants as kind
-use Rattle.wl_wire.specs.Building.{string_bytes_of, counted_bytes, arg_bytes}
+use Rattle.wl_wire.specs.Building.{arg_bytes}
 use Rattle.wl_wire.specs.ArgLaws.{FitsSlot}
 use Rattle.wl_wire.proofs.ArgPadding.{AreBytes}
 use Rattle.wl_wire.proofs.BuildingLemmas.{length_counted, length_string, length_bind}
@@ -15,11 +15,11 @@ use Rattle.wl_text.specs.declared.enclosed.Enclosure.TheVariants.{Quotes, Bracke
 use Rattle.wl_text.specs.Front.{Read, ◌>>=◌, behind}
 use Rattle.wl_text.specs.Decimals.{number_at, signed_at}
 use Rattle.wl_text.specs.Enclosed.{enclosed_text, enclosed_at}
-use Rattle.wl_text.specs.ArgTexts.{object_text, new_text, handle_text, arg_text, handles_behind}
-use Rattle.wl_text.specs.ArgReading.{plain, null_at, int_at, uint_at, fixed_at, quoted_at, string_from, id_from, object_from, new_id_at, new_at, bound_at, bind_at, array_at, handle_at, arg_at, with_handle}
-use Rattle.wl_text.proofs.FrontLaws.{if-some, some-same, then-some, behind-sound, behind-complete, behind-other}
-use Rattle.wl_text.proofs.DecimalLaws.{NoDigit, number-sound, number-complete, signed-sound, signed-complete}
-use Rattle.wl_text.proofs.EnclosedLaws.{enclosed-sound, enclosed-complete}
+use Rattle.wl_text.specs.ArgTexts.{object_text, new_text, arg_text, handles_behind}
+use Rattle.wl_text.specs.ArgReading.{plain, int_at, uint_at, fixed_at, quoted_at, string_from, id_from, object_from, new_id_at, new_at, bound_at, bind_at, array_at, handle_at, arg_at, with_handle}
+use Rattle.wl_text.proofs.FrontLaws.{some-same, then-some, behind-sound}
+use Rattle.wl_text.proofs.DecimalLaws.{number-sound, signed-sound}
+use Rattle.wl_text.proofs.EnclosedLaws.{enclosed-sound}
 
 -- a handle's number is there
 abbrev pub HasNumber : Arg → List ℤ → Type 0

@@ -8,7 +8,7 @@ use Rattle.wl_wire.specs.declared.signature.ArgKind.{ArgKind}
 use Rattle.wl_wire.specs.declared.signature.ArgKind.TheVariants as kind
 use Rattle.wl_wire.specs.declared.signature.Slot.{Slot}
 use Rattle.wl_wire.specs.Wire.{word_at}
-use Rattle.wl_wire.specs.Arguments.{IsWord, IsCounted, IsString, IsBind, IsArg, Spells}
+use Rattle.wl_wire.specs.Arguments.{IsString, IsBind, IsArg, Spells}
 use Rattle.wl_wire.specs.ArgFaults.{arg_size}
 use Rattle.wl_wire.proofs.FrontLemmas.{word_at-append}
 use Rattle.wl_wire.proofs.ArgShapes.{HasCounted, has_counted, arg-size}

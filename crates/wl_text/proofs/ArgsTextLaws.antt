@@ -1,19 +1,19 @@
 -- All arguments are read just as they are written.
-use Rattle.std.proofs.Common.{◌≡◌, ℕ, ℤ, ◌+◌, ◌^◌, ◌<◌, ◌≤◌, List, [], ◌∷◌, ◌++◌, length, codes, Option, Some, None, option_map, refl, sym, ap, ◌∙◌, subst, arith, append_assoc, length-append}
+use Rattle.std.proofs.Common.{◌≡◌, ℕ, ℤ, ◌^◌, ◌<◌, List, [], ◌∷◌, ◌++◌, length, Some, refl, sym, ap, ◌∙◌, subst, arith, append_assoc, length-append}
 use Rattle.wl_wire.specs.declared.arguments.Arg.{Arg}
 use Rattle.wl_wire.specs.declared.arguments.Arg.TheVariants as arg
 use Rattle.wl_wire.specs.declared.signature.Slot.{Slot}
 use Rattle.wl_wire.specs.Building.{arg_bytes, args_bytes}
-use Rattle.wl_wire.specs.ArgLaws.{FitsSlot, FitSlots}
+use Rattle.wl_wire.specs.ArgLaws.{FitSlots}
 use Rattle.wl_text.specs.declared.arg_reading.TextArg.{TextArg}
 use Rattle.wl_text.specs.declared.arg_reading.TextArgs.{TextArgs}
-use Rattle.wl_text.specs.Front.{Read, ◌>>=◌, behind}
+use Rattle.wl_text.specs.Front.{behind}
 use Rattle.wl_text.specs.ArgTexts.{comma, arg_text, handles_behind, args_text}
 use Rattle.wl_text.specs.ArgReading.{arg_at, with_handle, with_arg, arg_behind, args_at}
 use Rattle.wl_text.proofs.FrontLaws.{some-same, then-some, map-some, behind-sound, behind-complete}
 use Rattle.wl_text.proofs.DecimalLaws.{NoDigit}
 use Rattle.wl_text.proofs.ArgTextLaws.{HasNumber, HoldsBytes, IsSaid, arg-sound}
-use Rattle.wl_text.proofs.ArgTextBack.{number_of, said_of, arg-complete}
+use Rattle.wl_text.proofs.ArgTextBack.{number_of, arg-complete}
 
 -- each handle has its number, and no number is left
 abbrev pub Named : List Arg → List ℤ → Type 0

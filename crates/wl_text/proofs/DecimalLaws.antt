@@ -1,18 +1,18 @@
 -- A decimal number is read just as it is written.
-use Rattle.std.proofs.Common.{◌≡◌, ◌≢◌, ℕ, zero, suc, ◌+◌, ◌*◌, ◌^◌, ◌<◌, ◌≤◌, ◌==◌, ℤ, pos, negsuc, neg_ℤ, List, [], ◌∷◌, ◌++◌, length, take, drop, get_or, Bool, true, false, not, cond, nat_lt, nat_le, ◌&&◌, codes, Option, Some, None, option_map, option_and_then, w32, FitsSigned, refl, sym, ap, ◌∙◌, subst, arith, take-append-drop, length-append}
-use Rattle.std.proofs.lemmas.Bool.{eqb-true, and_parts, ltb-true, leb-true}
+use Rattle.std.proofs.Common.{◌≡◌, ℕ, zero, suc, ◌^◌, ◌<◌, ◌≤◌, ℤ, pos, negsuc, neg_ℤ, List, [], ◌∷◌, ◌++◌, length, drop, true, nat_lt, nat_le, ◌&&◌, codes, Option, Some, None, w32, FitsSigned, refl, sym, ap, ◌∙◌, subst, arith, take-append-drop}
+use Rattle.std.proofs.lemmas.Bool.{and_parts, ltb-true, leb-true}
 use Rattle.std.proofs.lemmas.Bool.Decides.{nat_tests}
-use Rattle.std.proofs.lemmas.List.{take_at, drop_at, append_assoc}
+use Rattle.std.proofs.lemmas.List.{take_at, drop_at}
 use Rattle.std.proofs.lemmas.List.Folds.{length-prefix_len}
-use Rattle.std.proofs.lemmas.Fmt.{decimal_is_IsNumeral, decimal_nonempty}
+use Rattle.std.proofs.lemmas.Fmt.{decimal_is_IsNumeral}
 use Rattle.std.proofs.lemmas.Slice.Eq.{bytes_eq-Decides}
 use Rattle.std.proofs.lemmas.Str.Parse.{digit_from_value}
-use Rattle.std.specs.Char.{digit_value, is_ascii_digit}
+use Rattle.std.specs.Char.{is_ascii_digit}
 use Rattle.std.specs.Fmt.{decimal, signed_decimal}
 use Rattle.std.specs.List.{prefix_len, take_while}
 use Rattle.std.specs.Str.{bytes_eq}
 use Rattle.std.specs.Str.Parse.{AllDigits, digits_value}
-use Rattle.wl_text.specs.Front.{Read, ◌>>=◌, behind}
+use Rattle.wl_text.specs.Front.{◌>>=◌, behind}
 use Rattle.wl_text.specs.Decimals.{word_of, number_at, negative, positive, signed_from, signed_at}
 use Rattle.wl_text.proofs.FrontLaws.{if-some, then-some, behind-sound, behind-complete, behind-other}
 
@@ -76,9 +76,10 @@ negative-sound text rest number told =
     let small : size ≤ 2 ^ 31 = leb-true size (2 ^ 31) parts.1 in
     let is : neg_ℤ (pos size) ≡ number = ap (λ it. it.0) chosen.1 in
     let behind : after ≡ rest = ap (λ it. it.1) chosen.1 in
-    let read = number-sound text after size first.1 in
-    (ap (λ it. codes "-" ++ it) read.0 ∙ ap (λ it. it ++ after) (sym (negative-text size some)) ∙ ap (λ it. signed_decimal it ++ after) is ∙ ap (λ it. signed_decimal number ++ it) behind,
-    subst (λ it. FitsSigned w32 it) is (negative-fits size some small))
+    let read = number-sound text after size first.1 in (
+      ap (λ it. codes "-" ++ it) read.0 ∙ ap (λ it. it ++ after) (sym (negative-text size some)) ∙ ap (λ it. signed_decimal it ++ after) is ∙ ap (λ it. signed_decimal number ++ it) behind,
+      subst (λ it. FitsSigned w32 it) is (negative-fits size some small),
+    )
 
 positive-sound : (text rest : List ℕ) (number : ℤ) → (number_at text >>= positive) ≡ Some (number, rest) → (text ≡ signed_decimal number ++ rest) × FitsSigned w32 number
 positive-sound text rest number told =
@@ -89,9 +90,10 @@ positive-sound text rest number told =
     let small : size < 2 ^ 31 = ltb-true size (2 ^ 31) chosen.0 in
     let is : pos size ≡ number = ap (λ it. it.0) chosen.1 in
     let behind : after ≡ rest = ap (λ it. it.1) chosen.1 in
-    let read = number-sound text after size first.1 in
-    (read.0 ∙ ap (λ it. signed_decimal it ++ after) is ∙ ap (λ it. signed_decimal number ++ it) behind,
-    subst (λ it. FitsSigned w32 it) is (record { sfits = small }))
+    let read = number-sound text after size first.1 in (
+      read.0 ∙ ap (λ it. signed_decimal it ++ after) is ∙ ap (λ it. signed_decimal number ++ it) behind,
+      subst (λ it. FitsSigned w32 it) is (record { sfits = small }),
+    )
 
 signed-parts : (sign : Option (List ℕ)) (text rest : List ℕ) (number : ℤ) → behind (codes "-") text ≡ sign → signed_from sign text ≡ Some (number, rest) → (text ≡ signed_decimal number ++ rest) × FitsSigned w32 number
 signed-parts (Some after) text rest number is told =

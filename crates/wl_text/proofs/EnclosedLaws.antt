@@ -1,11 +1,11 @@
 -- Bytes between quotes or brackets are read just as they are written.
-use Rattle.std.proofs.Common.{◌≡◌, ℕ, zero, suc, ◌+◌, ◌<◌, ◌≤◌, List, [], ◌∷◌, ◌++◌, length, Bool, true, false, cond, Option, Some, None, option_map, refl, sym, ap, ◌∙◌, subst, arith, append_assoc, length-append}
+use Rattle.std.proofs.Common.{◌≡◌, ℕ, zero, suc, ◌<◌, ◌≤◌, List, [], ◌∷◌, ◌++◌, length, Bool, true, false, cond, Option, Some, None, refl, sym, ap, ◌∙◌, subst, arith, append_assoc, length-append}
 use Rattle.std.proofs.lemmas.List.Elements.{All-cons, All-head, All-nil, All-tail}
 use Rattle.std.specs.List.{flat_map}
 use Rattle.wl_wire.proofs.ArgPadding.{AreBytes}
 use Rattle.wl_text.specs.declared.enclosed.Enclosure.{Enclosure}
 use Rattle.wl_text.specs.declared.enclosed.Enclosure.TheVariants.{Quotes, Brackets}
-use Rattle.wl_text.specs.Front.{Read, ◌>>=◌, behind}
+use Rattle.wl_text.specs.Front.{◌>>=◌, behind}
 use Rattle.wl_text.specs.Enclosed.{two_digits, is_marked, is_shown, opening, closing, item_text, item_at, enclosed_text, closed_or, with_byte, items_within, items_at, enclosed_at}
 use Rattle.wl_text.proofs.FrontLaws.{some-same, then-some, map-some, behind-sound, behind-complete}
 use Rattle.wl_text.proofs.ItemLaws.{item-sound, item-complete, item-goes-on}
@@ -19,17 +19,19 @@ abbrev AreItems : Enclosure → List ℕ → List ℕ → List ℕ → Type 0
 AreItems kind text rest bytes = (text ≡ closed_text kind bytes rest) × AreBytes bytes
 
 items-more : (kind : Enclosure) (text after rest : List ℕ) (byte : ℕ) (bytes : List ℕ) → (text ≡ item_text kind byte ++ after) × (byte < 256) → AreItems kind after rest bytes → AreItems kind text rest (byte ∷ bytes)
-items-more kind text after rest byte bytes one more =
-    (one.0 ∙ ap (λ it. item_text kind byte ++ it) more.0 ∙ sym (append_assoc (item_text kind byte) (flat_map (item_text kind) bytes) (closing kind ∷ rest)),
-    All-cons (λ it. it < 256) byte bytes one.1 more.1)
+items-more kind text after rest byte bytes one more = (
+  one.0 ∙ ap (λ it. item_text kind byte ++ it) more.0 ∙ sym (append_assoc (item_text kind byte) (flat_map (item_text kind) bytes) (closing kind ∷ rest)),
+  All-cons (λ it. it < 256) byte bytes one.1 more.1,
+)
 
 items-test : (kind : Enclosure) (most : ℕ) (closed : Option (List ℕ)) (text rest bytes : List ℕ) → ((text bytes : List ℕ) → items_within kind most text ≡ Some (bytes, rest) → AreItems kind text rest bytes) → behind (closing kind ∷ []) text ≡ closed → closed_or closed (item_at kind text >>= (λ one. with_byte one.0 (items_within kind most one.1))) ≡ Some (bytes, rest) → AreItems kind text rest bytes
 items-test kind most (Some after) text rest bytes later is told =
     let same = some-same {X = List ℕ × List ℕ} ([], after) (bytes, rest) told in
     let none : [] ≡ bytes = ap (λ it. it.0) same in
-    let behind : after ≡ rest = ap (λ it. it.1) same in
-    (behind-sound (closing kind ∷ []) text after is ∙ ap (λ it. closing kind ∷ it) behind ∙ ap (λ it. closed_text kind it rest) none,
-    subst AreBytes none (All-nil (λ it. it < 256)))
+    let behind : after ≡ rest = ap (λ it. it.1) same in (
+      behind-sound (closing kind ∷ []) text after is ∙ ap (λ it. closing kind ∷ it) behind ∙ ap (λ it. closed_text kind it rest) none,
+      subst AreBytes none (All-nil (λ it. it < 256)),
+    )
 items-test kind most None text rest bytes later is told =
     let one = then-some (item_at kind text) (λ one. with_byte one.0 (items_within kind most one.1)) (bytes, rest) told in
     let more = map-some (items_within kind most one.0.1) (λ it. (one.0.0 ∷ it.0, it.1)) (bytes, rest) one.2 in
@@ -60,10 +62,11 @@ pub enclosed-sound : (kind : Enclosure) (text rest bytes : List ℕ) → enclose
 unfolding enclosed_at
 enclosed-sound kind text rest bytes told =
     let first = then-some (behind (opening kind ∷ []) text) (items_at kind) (bytes, rest) told in
-    let read = items-sound kind (length first.0) rest first.0 bytes first.2 in
-    (behind-sound (opening kind ∷ []) text first.0 first.1 ∙ ap (λ it. opening kind ∷ it) read.0
-    ∙ ap (λ it. opening kind ∷ it) (sym (append_assoc (flat_map (item_text kind) bytes) (closing kind ∷ []) rest)),
-    read.1)
+    let read = items-sound kind (length first.0) rest first.0 bytes first.2 in (
+      behind-sound (opening kind ∷ []) text first.0 first.1 ∙ ap (λ it. opening kind ∷ it) read.0
+          ∙ ap (λ it. opening kind ∷ it) (sym (append_assoc (flat_map (item_text kind) bytes) (closing kind ∷ []) rest)),
+      read.1,
+    )
 
 text-long : (marked shown : Bool) (byte : ℕ) → 0 < length (cond marked (92 ∷ byte ∷ []) (cond shown (byte ∷ []) (92 ∷ 120 ∷ two_digits byte)))
 text-long true shown byte = omega arith

@@ -1,13 +1,13 @@
 -- What the readers of a text's front give: a word, and the bytes before a byte.
-use Rattle.std.proofs.Common.{◌≡◌, ◌≢◌, ℕ, zero, suc, ◌+◌, ◌<◌, ◌≤◌, ◌==◌, List, [], ◌∷◌, ◌++◌, length, take, drop, get_or, Bool, true, false, not, cond, nat_lt, Option, Some, None, option_map, option_and_then, refl, sym, ap, ◌∙◌, subst, arith, take-append-drop, length-append}
+use Rattle.std.proofs.Common.{◌≡◌, ◌≢◌, ℕ, suc, ◌+◌, ◌==◌, List, [], ◌∷◌, ◌++◌, length, take, drop, get_or, Bool, true, false, not, cond, nat_lt, Option, Some, None, option_map, option_and_then, refl, sym, ap, ◌∙◌, arith, take-append-drop, length-append}
 use Rattle.std.proofs.lemmas.Bool.{eqb-true, ne_eqb, and_parts}
 use Rattle.std.proofs.lemmas.Bool.Decides.{nat_tests}
 use Rattle.std.proofs.lemmas.List.{take_at, drop_at, drop_more, append_assoc}
 use Rattle.std.proofs.lemmas.List.Quantifiers.{position-Some}
 use Rattle.std.proofs.lemmas.Slice.Eq.{bytes_eq-Decides}
-use Rattle.std.specs.List.{list_all, position, position_or_len, prefix_len}
+use Rattle.std.specs.List.{list_all, position, position_or_len}
 use Rattle.std.specs.Str.{bytes_eq}
-use Rattle.wl_text.specs.Front.{Read, ◌>>=◌, behind, split_before}
+use Rattle.wl_text.specs.Front.{behind, split_before}
 
 -- what a chosen value tells of the choice
 pub if-some : {X : Type 0} (test : Bool) (x y : X) → cond test (Some x) None ≡ Some y → (test ≡ true) × (x ≡ y)
@@ -73,9 +73,8 @@ split-complete stop front rest none =
     let place : position (λ byte. byte == stop) whole ≡ Some (length front) = rw (len, inside) refl in
     let pieces : drop (length front + 1) whole ≡ rest =
     ap (drop (length front + 1)) (sym (append_assoc front (stop ∷ []) rest)) ∙ drop_at (front ++ stop ∷ []) rest (length front + 1) (length-append front (stop ∷ [])) in
-    ap (option_map (λ at. (take at whole, drop (at + 1) whole))) place
-    ∙ ap (λ it. Some (it, drop (length front + 1) whole)) (take_at front (stop ∷ rest) (length front) refl)
-    ∙ ap (λ it. Some (front, it)) pieces
+    let fronts : take (length front) whole ≡ front = take_at front (stop ∷ rest) (length front) refl in
+    rw (place, fronts, pieces) refl
 
 -- another byte at the front
 pub behind-other : (stop : ℕ) (word : List ℕ) (first : ℕ) (rest : List ℕ) → first ≢ stop → behind (stop ∷ word) (first ∷ rest) ≡ None

@@ -1,5 +1,5 @@
 -- The front of a message's text, up to its arguments, and the arguments up to the end of a line.
-use Rattle.std.proofs.Common.{◌≡◌, ℕ, ℤ, zero, suc, ◌+◌, ◌==◌, ◌&&◌, ◌^◌, ◌<◌, ◌≤◌, nat_le, List, [], ◌∷◌, ◌++◌, length, filter_map, slice_get, codes, Bool, true, Option, Some, None, option_map, refl, sym, ap, ◌∙◌, subst, arith, append_assoc, leb-true}
+use Rattle.std.proofs.Common.{◌≡◌, ℕ, ℤ, zero, suc, ◌==◌, ◌^◌, ◌<◌, ◌≤◌, nat_le, List, [], ◌∷◌, ◌++◌, length, filter_map, slice_get, codes, true, Some, option_map, refl, sym, ap, ◌∙◌, subst, arith, append_assoc, leb-true}
 use Rattle.std.proofs.lemmas.Bool.{eqb-true, and_parts}
 use Rattle.std.proofs.lemmas.Option.{slice_get_within}
 use Rattle.std.specs.Fmt.{decimal}
@@ -17,13 +17,13 @@ use Rattle.wl_tables.specs.Table.{messages}
 use Rattle.wl_tables.specs.Laws.{OpcodeTellsName, InterfaceTellsName}
 use Rattle.wl_text.specs.declared.arg_reading.TextArgs.{TextArgs}
 use Rattle.wl_text.specs.declared.head.Head.{Head}
-use Rattle.wl_text.specs.Front.{Read, ◌>>=◌, behind, split_before}
+use Rattle.wl_text.specs.Front.{behind, split_before}
 use Rattle.wl_text.specs.Decimals.{number_at}
 use Rattle.wl_text.specs.ArgTexts.{args_text}
 use Rattle.wl_text.specs.ArgReading.{args_at}
 use Rattle.wl_text.specs.Text.{is_event, start_text, whole, last_args_at, head_at}
 use Rattle.wl_text.proofs.FrontLaws.{some-same, then-some, map-some, behind-sound, behind-complete, split-sound, split-complete, lacks}
-use Rattle.wl_text.proofs.DecimalLaws.{NoDigit, number-sound, number-complete}
+use Rattle.wl_text.proofs.DecimalLaws.{number-sound, number-complete}
 use Rattle.wl_text.proofs.ArgsTextLaws.{Named, AllHold, AreSaid, args-sound, args-complete}
 use Rattle.wl_text.proofs.PrintLemmas.{way-again}
 use Rattle.wl_text.proofs.TableFacts.{handle_count, is_readable, readable, name-lacks}

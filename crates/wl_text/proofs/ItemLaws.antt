@@ -1,16 +1,12 @@
 -- The bytes of a string and of an array are read just as they are written.
-use Rattle.std.proofs.Common.{◌≡◌, ◌≢◌, ℕ, zero, suc, ◌+◌, ◌-◌, ◌*◌, ◌/◌, ◌%◌, ◌^◌, ◌<◌, ◌≤◌, ◌==◌, ◌&&◌, ◌||◌, List, [], ◌∷◌, ◌++◌, length, take, drop, All, Bool, true, false, not, cond, nat_lt, nat_le, Option, Some, None, option_map, option_and_then, refl, sym, ap, ◌∙◌, subst, arith, length-append}
-use Rattle.std.proofs.lemmas.Bool.{eqb-true, and_parts, ltb-true}
+use Rattle.std.proofs.Common.{◌≡◌, ◌≢◌, ℕ, ◌+◌, ◌*◌, ◌/◌, ◌%◌, ◌<◌, ◌==◌, ◌&&◌, List, [], ◌∷◌, ◌++◌, Bool, true, false, not, cond, Some, None, refl, sym, ap, ◌∙◌, subst, arith}
+use Rattle.std.proofs.lemmas.Bool.{eqb-true}
 use Rattle.std.proofs.lemmas.Bool.Decides.{nat_tests}
-use Rattle.std.proofs.lemmas.List.{append_assoc}
-use Rattle.std.proofs.lemmas.List.Elements.{All-cons, All-head, All-nil, All-tail}
-use Rattle.std.specs.List.{flat_map}
 use Rattle.wl_text.specs.declared.enclosed.Enclosure.{Enclosure}
 use Rattle.wl_text.specs.declared.enclosed.Enclosure.TheVariants.{Quotes, Brackets}
 use Rattle.wl_text.specs.Front.{Read, ◌>>=◌, behind}
-use Rattle.wl_text.specs.Enclosed.{digit, digit_number, two_digits, two_digits_at, is_marked, is_shown, byte_text, hidden, escape_at, byte_at, opening, closing, item_text, item_at, enclosed_text, closed_or, with_byte, items_within, items_at, enclosed_at}
-use Rattle.wl_text.proofs.FrontLaws.{if-some, some-same, then-some, map-some, behind-sound, behind-complete, behind-other}
-use Rattle.wl_wire.proofs.ArgPadding.{AreBytes}
+use Rattle.wl_text.specs.Enclosed.{digit, digit_number, two_digits, two_digits_at, is_marked, is_shown, byte_text, hidden, escape_at, byte_at, closing, item_text, item_at}
+use Rattle.wl_text.proofs.FrontLaws.{some-same, then-some, behind-other}
 
 digit-read : (number : ℕ) → number < 16 → digit_number (digit number) ≡ Some number
 digit-read number small = grind (arith, nat_tests)
@@ -30,9 +26,10 @@ two-sound (high ∷ low ∷ text) rest byte told =
     let a = digit-written high upper.0 upper.1 in
     let b = digit-written low lower.0 lower.1 in
     let first : upper.0 ≡ byte / 16 = omega (arith, a.1, b.1, value) in
-    let second : lower.0 ≡ byte % 16 = omega (arith, a.1, b.1, value) in
-    (ap (λ it. it ∷ low ∷ text) (a.0 ∙ ap digit first) ∙ ap (λ it. digit (byte / 16) ∷ it ∷ text) (b.0 ∙ ap digit second) ∙ ap (λ it. two_digits byte ++ it) behind,
-    omega (arith, a.1, b.1, value))
+    let second : lower.0 ≡ byte % 16 = omega (arith, a.1, b.1, value) in (
+      ap (λ it. it ∷ low ∷ text) (a.0 ∙ ap digit first) ∙ ap (λ it. digit (byte / 16) ∷ it ∷ text) (b.0 ∙ ap digit second) ∙ ap (λ it. two_digits byte ++ it) behind,
+      omega (arith, a.1, b.1, value),
+    )
 
 two-complete : (byte : ℕ) (rest : List ℕ) → byte < 256 → two_digits_at (two_digits byte ++ rest) ≡ Some (byte, rest)
 two-complete byte rest small =
@@ -79,10 +76,11 @@ digits-sound text rest byte told =
     let value : found.0.0 ≡ byte = ap (λ it. it.0) is.1 in
     let behind : found.0.1 ≡ rest = ap (λ it. it.1) is.1 in
     let read = two-sound text found.0.1 found.0.0 found.1 in
-    let not_shown : is_shown byte ≡ false = ap is_shown (sym value) ∙ is.0 in
-    (ap (λ it. 92 ∷ 120 ∷ it) read.0 ∙ ap (λ it. 92 ∷ 120 ∷ two_digits it ++ found.0.1) value ∙ ap (λ it. 92 ∷ 120 ∷ two_digits byte ++ it) behind
-    ∙ ap (λ it. it ++ rest) (sym (hidden-text byte (marked-shown byte not_shown) not_shown)),
-    omega (arith, read.1, value))
+    let not_shown : is_shown byte ≡ false = ap is_shown (sym value) ∙ is.0 in (
+      ap (λ it. 92 ∷ 120 ∷ it) read.0 ∙ ap (λ it. 92 ∷ 120 ∷ two_digits it ++ found.0.1) value ∙ ap (λ it. 92 ∷ 120 ∷ two_digits byte ++ it) behind
+          ∙ ap (λ it. it ++ rest) (sym (hidden-text byte (marked-shown byte not_shown) not_shown)),
+      omega (arith, read.1, value),
+    )
 
 escape-test : (marked is_x : Bool) (first : ℕ) (text rest : List ℕ) (byte : ℕ) → is_marked first ≡ marked → (first == 120) ≡ is_x → cond marked (Some (first, text)) (cond is_x (two_digits_at text >>= hidden) None) ≡ Some (byte, rest) → IsByte (92 ∷ first ∷ text) rest byte
 escape-test true is_x first text rest byte is x told =

@@ -1,8 +1,8 @@
 -- The bytes between quotes or brackets, one after another.
-use Rattle.std.proofs.Common.{◌≡◌, ℕ, zero, suc, ◌<◌, List, [], ◌∷◌, ◌++◌, length, Option, Some, None, option_map, refl, sym, ap, ◌∙◌, arith, append-nil, append_assoc}
+use Rattle.std.proofs.Common.{◌≡◌, ℕ, zero, suc, ◌<◌, List, [], ◌∷◌, ◌++◌, Some, None, option_map, refl, sym, ap, ◌∙◌, arith, append-nil, append_assoc}
 use Rattle.wl_text.specs.declared.enclosed.Enclosure.{Enclosure}
-use Rattle.wl_text.specs.Front.{Read, ◌>>=◌, behind}
-use Rattle.wl_text.specs.Enclosed.{closing, closed_or, with_byte, item_at, items_within}
+use Rattle.wl_text.specs.Front.{Read, behind}
+use Rattle.wl_text.specs.Enclosed.{closing, with_byte, item_at, items_within}
 
 -- bytes before those that follow
 abbrev pub with_front : List ℕ → Read (List ℕ) → Read (List ℕ)

@@ -5,12 +5,11 @@
 -- behind it can't be taken for a part of it: behind a number stands no digit, behind a name a byte that no name has. So the text is
 -- read as the same arguments, and the message that is built of them is the first one with zeros as padding. The other way, each
 -- reader that gives a value tells that the text was written so, and the message of the values is a message of the table.
-use Rattle.std.proofs.Common.{◌≡◌, ℕ, ℤ, ◌+◌, ◌^◌, ◌<◌, ◌≤◌, nat_le, List, [], ◌∷◌, ◌++◌, length, take, drop, slice_get, filter_map, codes, All, Bool, true, Option, Some, None, FitsSigned, w32, refl, sym, ap, ◌∙◌, subst, arith, take-append-drop, length-drop, leb-true}
+use Rattle.std.proofs.Common.{◌≡◌, ℕ, ℤ, ◌+◌, ◌^◌, ◌<◌, ◌≤◌, nat_le, List, [], ◌++◌, length, take, drop, slice_get, codes, true, Some, sym, ap, ◌∙◌, subst, arith, take-append-drop, length-drop, leb-true}
 use Rattle.std.proofs.lemmas.Bool.Decides.{nat_tests}
 use Rattle.std.proofs.lemmas.List.{drop_at, length-take-le}
 use Rattle.std.proofs.lemmas.List.Elements.{All-drop}
 use Rattle.wl_wire.specs.declared.arguments.Arg.{Arg}
-use Rattle.wl_wire.specs.ArgFaults.{args_fault}
 use Rattle.wl_wire.specs.Arguments.{Spells}
 use Rattle.wl_wire.specs.ArgLaws.{FitSlots, zero_padded}
 use Rattle.wl_wire.specs.Building.{args_bytes, built}
@@ -21,7 +20,7 @@ use Rattle.wl_wire.proofs.ArgRoundTrip.{good-is-spelled, built-is-read}
 use Rattle.wl_wire.proofs.ArgShapes.{spells-fault}
 use Rattle.wl_wire.proofs.BuildingLemmas.{built-message}
 use Rattle.wl_tables.specs.Laws.{OpcodeTellsName, InterfaceTellsName}
-use Rattle.wl_tables.specs.Messages.{form_of, carried_by}
+use Rattle.wl_tables.specs.Messages.{form_of}
 use Rattle.wl_tables.specs.Places.{MessageRow}
 use Rattle.wl_tables.specs.Table.{messages}
 use Rattle.wl_tables.specs.declared.interface.Interface.{Interface}
@@ -29,17 +28,14 @@ use Rattle.wl_tables.specs.declared.way.Way.{Way}
 use Rattle.wl_text.specs.declared.arg_reading.TextArgs.{TextArgs}
 use Rattle.wl_text.specs.declared.head.Head.{Head}
 use Rattle.wl_text.specs.declared.text_message.TextMessage.{TextMessage}
-use Rattle.wl_text.specs.Front.{Read, ◌>>=◌}
-use Rattle.wl_text.specs.ArgValues.{args_in}
 use Rattle.wl_text.specs.ArgTexts.{args_text}
-use Rattle.wl_text.specs.Text.{CanPrint, start_text, call_text, row_text, text_of, head_at, last_args_at, message_from, message_of}
-use Rattle.wl_text.specs.TextLaws.{IsPrintable, IsText, ReadIsText, ReadPrints, PrintedIsRead, OneMessage}
+use Rattle.wl_text.specs.Text.{start_text, call_text, row_text, text_of, head_at, last_args_at, message_from, message_of}
+use Rattle.wl_text.specs.TextLaws.{IsText, PrintedIsRead, OneMessage}
 use Rattle.wl_text.proofs.FrontLaws.{if-some, some-same, then-some}
 use Rattle.wl_text.proofs.ArgValuesLemmas.{args-in}
-use Rattle.wl_text.proofs.ArgsTextLaws.{Named, AreSaid}
+use Rattle.wl_text.proofs.ArgsTextLaws.{AreSaid}
 use Rattle.wl_text.proofs.HandleCounts.{named-counts, counted-names}
 use Rattle.wl_text.proofs.HeadLaws.{IsHead, named_text, in-table, head-sound, head-complete, last-sound, last-complete}
-use Rattle.wl_text.proofs.TableFacts.{handle_count}
 use Rattle.wl_text.proofs.WireBytes.{word-below, args-good, built-bytes, built-object, built-opcode}
 
 -- the text of a message of this row that these arguments spell

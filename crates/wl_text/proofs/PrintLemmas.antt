@@ -1,5 +1,5 @@
 -- The text of a message whose row and arguments are known.
-use Rattle.std.proofs.Common.{◌≡◌, ℕ, ℤ, List, ◌++◌, drop, slice_get, Bool, Option, Some, None, option_map, refl, sym, ap, ◌∙◌, subst}
+use Rattle.std.proofs.Common.{◌≡◌, ℕ, ℤ, List, ◌++◌, drop, slice_get, Option, Some, None, option_map, refl, sym, ap, ◌∙◌, subst}
 use Rattle.wl_tables.specs.Messages.{way_of, form_of, row, signature, message_name}
 use Rattle.wl_tables.specs.Places.{MessageRow}
 use Rattle.wl_tables.specs.Table.{messages}

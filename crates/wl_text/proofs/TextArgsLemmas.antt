@@ -1,7 +1,6 @@
 -- Arguments that are read one after another.
 use Rattle.std.proofs.Common.{◌≡◌, ℕ, ℤ, ◌+◌, ◌≤◌, List, [], ◌∷◌, ◌++◌, length, drop, slice_get, Option, Some, None, option_map, Err, refl, sym, ap, ◌∙◌, append-nil, append_assoc}
 use Rattle.std.proofs.lemmas.List.{drop_all}
-use Rattle.wl_wire.specs.declared.arguments.Arg.{Arg}
 use Rattle.wl_wire.specs.declared.signature.Slot.{Slot}
 use Rattle.wl_wire.proofs.ArgLists.{next-slot}
 use Rattle.wl_text.specs.declared.arg_reading.TextArg.{TextArg}
@@ -9,7 +8,7 @@ use Rattle.wl_text.specs.declared.arg_reading.TextArgs.{TextArgs}
 use Rattle.wl_text.specs.declared.text_message.TextFault.{TextFault}
 use Rattle.wl_text.specs.declared.text_message.TextFault.TheVariants.{Form, Memory}
 use Rattle.wl_text.specs.Answers.{Tells}
-use Rattle.wl_text.specs.Front.{Read, ◌>>=◌}
+use Rattle.wl_text.specs.Front.{Read}
 use Rattle.wl_text.specs.ArgTexts.{comma}
 use Rattle.wl_text.specs.ArgReading.{with_handle, with_arg, and_arg, arg_behind, args_at}
 
@@ -41,7 +40,7 @@ with_said-arg said one (Some it) =
 module _ (slots : List Slot) (whole : Read TextArgs) (said : TextArgs) (word text : List ℕ) (i : ℕ) (so_far : whole ≡ with_said said (args_at word (drop i slots) text)) where
   pub args-end : length slots ≤ i → whole ≡ Some (said, text)
   unfolding args_at
-  args-end past = so_far ∙ rw (drop_all i slots past, append-nil, append-nil)
+  args-end past = so_far ∙ rw (drop_all i slots past, append-nil said.args, append-nil said.handles)
 
   pub args-none : (slot : Slot) → slice_get slots i ≡ Some slot → None ≡ arg_behind word slot text → whole ≡ None
   unfolding args_at

@@ -1,10 +1,10 @@
 -- What arguments that bytes spell are like: they fit their places, and what they hold are bytes; and back.
-use Rattle.std.proofs.Common.{◌≡◌, ℕ, ℤ, ◌+◌, ◌*◌, ◌/◌, ◌%◌, ◌^◌, ◌<◌, ◌≤◌, List, [], ◌∷◌, ◌++◌, length, take, drop, get_or, slice_index, All, Bool, Fits, FitsSigned, w32, refl, sym, ap, ◌∙◌, subst, inl, inr, arith, length-append}
+use Rattle.std.proofs.Common.{◌≡◌, ℕ, ℤ, ◌+◌, ◌*◌, ◌/◌, ◌%◌, ◌^◌, ◌<◌, ◌≤◌, List, [], ◌∷◌, ◌++◌, length, drop, get_or, slice_index, Bool, Fits, FitsSigned, w32, refl, sym, ap, ◌∙◌, subst, inl, inr, arith, length-append}
 use Rattle.std.proofs.lemmas.Bool.{cases_lt}
 use Rattle.std.proofs.lemmas.List.{take_at, drop_at, get_or_past}
 use Rattle.std.proofs.lemmas.List.Elements.{All-append, All-cons, All-nil, All-get_or, All-take, All-drop, All-replicate}
 use Rattle.std.proofs.Math.Facts.{Fits-of_lt, sfits_to_z}
-use Rattle.std.specs.Int.{cast_signed, cast_unsigned}
+use Rattle.std.specs.Int.{cast_unsigned}
 use Rattle.wl_wire.specs.declared.arguments.Arg.{Arg}
 use Rattle.wl_wire.specs.declared.arguments.Arg.TheVariants as arg
 use Rattle.wl_wire.specs.declared.signature.ArgKind.{ArgKind}
@@ -12,7 +12,7 @@ use Rattle.wl_wire.specs.declared.signature.ArgKind.TheVariants as kind
 use Rattle.wl_wire.specs.declared.signature.Slot.{Slot}
 use Rattle.wl_wire.specs.Wire.{word_at, object_of, opcode_of}
 use Rattle.wl_wire.specs.Arguments.{padding_of, IsWord, IsSigned, IsCounted, IsString, IsBind, IsArg, Spells}
-use Rattle.wl_wire.specs.Building.{word_bytes, zeros, counted_bytes, string_bytes_of, arg_bytes, args_bytes, built}
+use Rattle.wl_wire.specs.Building.{word_bytes, counted_bytes, string_bytes_of, arg_bytes, args_bytes, built}
 use Rattle.wl_wire.specs.ArgLaws.{FitsSlot, FitSlots}
 use Rattle.wl_wire.proofs.ArgPadding.{AreBytes}
 use Rattle.wl_wire.proofs.ArgReading.{word_at-drop}

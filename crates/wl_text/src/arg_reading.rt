@@ -37,11 +37,7 @@ fn plain(arg: Arg) -> TextArg
 fn null_at(null: bool, arg: Arg, rest: &[u8]) -> Option<(TextArg, &[u8])>
     ensures { read_view result ≡ null_at null arg rest.now }
 {
-    if null {
-        Some((plain(arg), rest))
-    } else {
-        None
-    }
+    if null { Some((plain(arg), rest)) } else { None }
 }
 
 #[tactic(auto, unfolding(crate::specs::ArgReading::int_at))]

@@ -20,9 +20,7 @@ fn word_of(digits: &[u8]) -> Option<u32>
 {
     let mut word = 0u32;
     'digits: for digit in digits {
-        word = word
-            .checked_mul(10)?
-            .checked_add(u32::from(*digit - b'0'))?;
+        word = word.checked_mul(10)?.checked_add(u32::from(*digit - b'0'))?;
     }
     Some(word)
 }

@@ -17,3 +17,5 @@ pub use printing::print_message;
 pub use reading::read_message;
 pub use text_message::{TextFault, TextMessage};
 
+#[cfg(test)]
+mod tests;

@@ -8,7 +8,7 @@ use crate::decimals::put_number;
 use crate::head::is_event;
 use std::alloc::{AllocError, Global};
 use wl_tables::{Interface, Way, interface_name, message_name, signature};
-use wl_wire::{Arg, Message, Text, args};
+use wl_wire::{Arg, Message, MessageFault, Text, args};
 
 // Adds the interface and the object.
 fn put_start(out: &mut Text, interface: Interface, object: u32) -> Result<(), AllocError>
@@ -20,12 +20,7 @@ fn put_start(out: &mut Text, interface: Interface, object: u32) -> Result<(), Al
 }
 
 // Adds the name and the arguments.
-fn put_call(
-    out: &mut Text,
-    name: &str,
-    args: &[Arg],
-    handles: &[i32],
-) -> Result<(), AllocError>
+fn put_call(out: &mut Text, name: &str, args: &[Arg], handles: &[i32]) -> Result<(), AllocError>
     ensures { OnOk result (out.new ≡ out.old ++ call_text name.now args.now handles.now) }
 {
     out.push(b'.')?;
@@ -52,18 +47,18 @@ pub fn print_message(
 {
     let events = is_event(way);
     let opcode = m.opcode();
-    let mut out = Text::new(alloc);
-    match (signature(interface, events, opcode), message_name(interface, events, opcode)) {
-        (Some(signature), Some(name)) => {
-            let args = match args(alloc, &signature, m) {
-                Ok(args) => args,
-                // The arguments are good.
-                Err(_) => return Err(AllocError),
-            };
-            put_start(&mut out, interface, m.object())?;
-            put_call(&mut out, name, args.as_slice(), handles)?;
-            Ok(out)
-        }
-        _ => Ok(out),
+    let signature = signature(interface, events, opcode);
+    match (signature, message_name(interface, events, opcode)) {
+        (Some(signature), Some(name)) => match args(alloc, &signature, m) {
+            Ok(args) => {
+                let mut out = Text::new(alloc);
+                put_start(&mut out, interface, m.object())?;
+                put_call(&mut out, name, args.as_slice(), handles)?;
+                Ok(out)
+            }
+            Err(MessageFault::Memory) => Err(AllocError),
+            Err(MessageFault::Wire(_)) => unreachable!(),
+        },
+        _ => unreachable!(),
     }
 }

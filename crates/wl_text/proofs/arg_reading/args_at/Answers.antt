@@ -1,7 +1,5 @@
-use Rattle.std.proofs.Common.{◌≡◌, ◌+◌, length, drop, sym, ap, ◌∙◌, arith, rules}
-use Rattle.wl_text.specs.ArgTexts.{comma}
-use Rattle.wl_text.specs.ArgReading.{args_at}
-use Rattle.wl_text.proofs.TextArgsLemmas.{with_said, with_said-none, args-end, args-none, args-more, fault-tells}
+use Rattle.std.proofs.Common.{sym, arith}
+use Rattle.wl_text.proofs.TextArgsLemmas.{with_said-none, args-end, args-none, args-more, fault-tells}
 use Rattle.wl_text.proofs.arg_reading.args_at.Goals as goal
 
 pub slots-init : goal.slots-init

@@ -1,6 +1,4 @@
-use Rattle.std.proofs.Common.{rules, ◌≡◌, arith}
-use Rattle.std.proofs.lemmas.Grind.{common_steps}
-use Rattle.std.specs.Str.Parse.{AllDigits}
+use Rattle.std.proofs.Common.{rules}
 use Rattle.wl_text.specs.Decimals.{number_at}
 use Rattle.wl_text.proofs.Digits.{front-digits}
 use Rattle.wl_text.proofs.decimals.number_at.Goals as goal

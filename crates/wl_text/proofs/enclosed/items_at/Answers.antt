@@ -1,5 +1,5 @@
-use Rattle.std.proofs.Common.{◌≡◌, ℕ, suc, ◌+◌, ◌-◌, ◌<◌, length, sym, ap, ◌∙◌, arith, rules}
-use Rattle.wl_text.specs.Enclosed.{items_at, items_within}
+use Rattle.std.proofs.Common.{◌≡◌, suc, ◌+◌, ◌-◌, length, sym, ap, ◌∙◌, arith}
+use Rattle.wl_text.specs.Enclosed.{items_within}
 use Rattle.wl_text.proofs.Items.{with_front, with_front-nil, items-closed, items-none, items-more, items-spent}
 use Rattle.wl_text.proofs.enclosed.items_at.Goals as goal
 

@@ -1,4 +1,4 @@
-use Rattle.std.proofs.Common.{◌≡◌, ◌-◌, length}
+use Rattle.std.proofs.Common.{◌≡◌, ◌-◌}
 use Rattle.wl_text.specs.Enclosed.{items_at, items_within}
 use Rattle.wl_text.proofs.Items.{with_front}
 use Rattle.wl_text.proofs.enclosed.items_at.Given as goal
