@@ -21,16 +21,19 @@ plain it = record { arg = it; handle = None }
 abbrev pub null_at : Bool → Arg → List ℕ → Read TextArg
 null_at null it rest = if null then Some (plain it, rest) else None
 
+-- a signed number
 unfoldable pub int_at : List ℕ → Read TextArg
 int_at text = do
   value ← signed_at text
   Some (plain (arg.Int value.0), value.1)
 
+-- an unsigned number
 unfoldable pub uint_at : List ℕ → Read TextArg
 uint_at text = do
   value ← number_at text
   Some (plain (arg.Uint value.0), value.1)
 
+-- a signed number of so many 1/256
 unfoldable pub fixed_at : List ℕ → Read TextArg
 fixed_at text = do
   value ← signed_at text
@@ -52,7 +55,7 @@ string_from None null text = quoted_at text
 abbrev pub id_from : ℕ × List ℕ → Read TextArg
 id_from (id, rest) = if id == 0 then None else Some (plain (arg.Object id), rest)
 
--- an object, likewise
+-- an object, with the text behind the sign of null if that stands there
 abbrev pub object_from : Option (List ℕ) → Bool → List ℕ → Read TextArg
 object_from (Some rest) null text = null_at null (arg.Object 0) rest
 object_from None null text = behind (codes "@") text >>= number_at >>= id_from
@@ -61,6 +64,7 @@ object_from None null text = behind (codes "@") text >>= number_at >>= id_from
 unfoldable pub new_id_at : List ℕ → Read ℕ
 new_id_at text = behind (codes "new @") text >>= number_at
 
+-- a new object of the interface that the table names
 unfoldable pub new_at : List ℕ → Read TextArg
 new_at text = do
   id ← new_id_at text
@@ -75,17 +79,20 @@ bound_at text = do
   id ← new_id_at third
   Some ((version.0, id.0), id.1)
 
+-- a new object with the name of its interface, its version and its id
 unfoldable pub bind_at : List ℕ → Read TextArg
 bind_at text = do
   interface ← enclosed_at Quotes text
   bound ← bound_at interface.1
   Some (plain (arg.Bind interface.0 bound.0.0 bound.0.1), bound.1)
 
+-- an array
 unfoldable pub array_at : List ℕ → Read TextArg
 array_at text = do
   bytes ← enclosed_at Brackets text
   Some (plain (arg.Array bytes.0), bytes.1)
 
+-- a handle by its number
 unfoldable pub handle_at : List ℕ → Read TextArg
 handle_at text = do
   rest ← behind (codes "fd %") text

@@ -10,6 +10,7 @@ use Rattle.wl_text.specs.Enclosed.{enclosed_text}
 abbrev pub object_text : ℕ → List ℕ
 object_text id = if id == 0 then codes "null" else codes "@" ++ decimal id
 
+-- the id of a new object
 abbrev pub new_text : ℕ → List ℕ
 new_text id = codes "new @" ++ decimal id
 
@@ -43,5 +44,5 @@ comma = codes ", "
 
 -- all arguments, with a word before the first
 abbrev pub args_text : List ℕ → List Arg → List ℤ → List ℕ
-args_text before [] handles = []
-args_text before (it ∷ args) handles = before ++ (arg_text it handles ++ args_text comma args (handles_behind it handles))
+args_text word [] handles = []
+args_text word (it ∷ args) handles = word ++ (arg_text it handles ++ args_text comma args (handles_behind it handles))

@@ -23,10 +23,11 @@ negative (size, rest) = if nat_lt 0 size && nat_le size (2 ^ 31) then Some (neg_
 abbrev pub positive : ℕ × List ℕ → Read ℤ
 positive (size, rest) = if nat_lt size (2 ^ 31) then Some (pos size, rest) else None
 
--- a signed number of 32 bits, with the text behind a sign if one stands there
+-- a number with the text behind a sign, if one stands there
 abbrev pub signed_from : Option (List ℕ) → List ℕ → Read ℤ
 signed_from (Some rest) text = number_at rest >>= negative
 signed_from None text = number_at text >>= positive
 
+-- a signed number of 32 bits
 unfoldable pub signed_at : List ℕ → Read ℤ
 signed_at text = signed_from (behind (codes "-") text) text

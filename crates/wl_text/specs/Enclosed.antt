@@ -1,14 +1,15 @@
--- Bytes in a text: those of a string between quotes, with escapes as C and JSON have them, and those of an array between brackets in lower-case hexadecimal; the forms are this project's own.
+-- Bytes in a text: those of a string between quotes, with escapes as C has them, and those of an array between brackets in lower-case hexadecimal; the forms are this project's own.
 use Rattle.std.specs.Prelude.{ℕ, zero, suc, ◌+◌, ◌-◌, ◌*◌, ◌/◌, ◌%◌, List, [], ◌∷◌, ◌++◌, length, Bool, not, ◌==◌, ◌&&◌, ◌||◌, nat_lt, nat_le, if◌then◌else◌, Option, Some, None, option_map}
 use Rattle.std.specs.List.{flat_map}
 use Rattle.wl_text.specs.declared.enclosed.Enclosure.{Enclosure}
 use Rattle.wl_text.specs.declared.enclosed.Enclosure.TheVariants.{Quotes, Brackets}
 use Rattle.wl_text.specs.Front.{Read, ◌>>=◌, behind}
 
--- a digit of a number below 16, and its number
+-- the digit of a number below 16
 abbrev pub digit : ℕ → ℕ
 digit number = if nat_lt number 10 then 48 + number else 87 + number
 
+-- the number of a digit
 abbrev pub digit_number : ℕ → Option ℕ
 digit_number byte =
     if nat_le 48 byte && nat_le byte 57 then Some (byte - 48)
@@ -19,6 +20,7 @@ digit_number byte =
 abbrev pub two_digits : ℕ → List ℕ
 two_digits byte = digit (byte / 16) ∷ digit (byte % 16) ∷ []
 
+-- the byte of two digits
 abbrev pub two_digits_at : List ℕ → Read ℕ
 two_digits_at [] = None
 two_digits_at (high ∷ []) = None
@@ -27,9 +29,21 @@ two_digits_at (high ∷ low ∷ rest) = do
   lower ← digit_number low
   Some (16 * upper + lower, rest)
 
--- a byte of a string that stands for itself behind a backslash: a quote or a backslash
+-- `"`
+abbrev pub quote : ℕ
+quote = 34
+
+-- `\`
+abbrev pub backslash : ℕ
+backslash = 92
+
+-- the letter x, which stands before the two digits of a byte
+abbrev pub letter_x : ℕ
+letter_x = 120
+
+-- a byte of a string that stands for itself behind a backslash
 abbrev pub is_marked : ℕ → Bool
-is_marked byte = byte == 34 || byte == 92
+is_marked byte = byte == quote || byte == backslash
 
 -- a visible byte or a space
 abbrev pub is_shown : ℕ → Bool
@@ -38,9 +52,9 @@ is_shown byte = nat_le 32 byte && nat_le byte 126
 -- how a byte of a string is written
 abbrev pub byte_text : ℕ → List ℕ
 byte_text byte =
-    if is_marked byte then 92 ∷ byte ∷ []
+    if is_marked byte then backslash ∷ byte ∷ []
     else (if is_shown byte then byte ∷ []
-    else 92 ∷ 120 ∷ two_digits byte)
+    else backslash ∷ letter_x ∷ two_digits byte)
 
 -- a byte that was read from two digits, which one that is shown is not written with
 abbrev pub hidden : ℕ × List ℕ → Read ℕ
@@ -51,31 +65,33 @@ abbrev pub escape_at : List ℕ → Read ℕ
 escape_at [] = None
 escape_at (first ∷ rest) =
     if is_marked first then Some (first, rest)
-    else (if first == 120 then two_digits_at rest >>= hidden
+    else (if first == letter_x then two_digits_at rest >>= hidden
     else None)
 
 -- a byte of a string
 abbrev pub byte_at : List ℕ → Read ℕ
 byte_at [] = None
 byte_at (first ∷ rest) =
-    if first == 92 then escape_at rest
-    else (if is_shown first && not (first == 34) then Some (first, rest)
+    if first == backslash then escape_at rest
+    else (if is_shown first && not (first == quote) then Some (first, rest)
     else None)
 
--- the bytes around
+-- the byte before the first
 abbrev pub opening : Enclosure → ℕ
-opening Quotes = 34
+opening Quotes = quote
 opening Brackets = 91
 
+-- the byte behind the last
 abbrev pub closing : Enclosure → ℕ
-closing Quotes = 34
+closing Quotes = quote
 closing Brackets = 93
 
--- one byte between them
+-- how one byte between them is written
 abbrev pub item_text : Enclosure → ℕ → List ℕ
 item_text Quotes byte = byte_text byte
 item_text Brackets byte = two_digits byte
 
+-- one byte between them
 abbrev pub item_at : Enclosure → List ℕ → Read ℕ
 item_at Quotes text = byte_at text
 item_at Brackets text = two_digits_at text

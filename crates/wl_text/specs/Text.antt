@@ -67,14 +67,22 @@ last_args_at form text = do
   rest ← behind (codes ")") said.1
   whole (said.0, rest)
 
+-- `@`
+abbrev pub at_sign : ℕ
+at_sign = 64
+
+-- `(`
+abbrev pub parenthesis : ℕ
+parenthesis = 40
+
 -- a message up to its arguments: `wl_surface@5.attach(`
 unfoldable pub head_at : Way → List ℕ → Read Head
 head_at way line = do
-  named ← split_before 64 line
+  named ← split_before at_sign line
   interface ← interface_of named.0
   object ← number_at named.1
   call ← behind (codes ".") object.1
-  word ← split_before 40 call
+  word ← split_before parenthesis call
   opcode ← table.opcode_of interface (is_event way) word.0
   form ← signature interface (is_event way) opcode
   Some (record { interface = interface; object = object.0; opcode = opcode; signature = form }, word.1)

@@ -40,6 +40,7 @@ fn null_at(null: bool, arg: Arg, rest: &[u8]) -> Option<(TextArg, &[u8])>
     if null { Some((plain(arg), rest)) } else { None }
 }
 
+// A signed number.
 #[tactic(auto, unfolding(crate::specs::ArgReading::int_at))]
 fn int_at(text: &[u8]) -> Option<(TextArg, &[u8])>
     ensures { read_view result ≡ int_at text.now }
@@ -48,6 +49,7 @@ fn int_at(text: &[u8]) -> Option<(TextArg, &[u8])>
     Some((plain(Arg::Int(value)), rest))
 }
 
+// An unsigned number.
 #[tactic(auto, unfolding(crate::specs::ArgReading::uint_at))]
 fn uint_at(text: &[u8]) -> Option<(TextArg, &[u8])>
     ensures { read_view result ≡ uint_at text.now }
@@ -56,6 +58,7 @@ fn uint_at(text: &[u8]) -> Option<(TextArg, &[u8])>
     Some((plain(Arg::Uint(value)), rest))
 }
 
+// A signed number in 1/256.
 #[tactic(auto, unfolding(crate::specs::ArgReading::fixed_at))]
 fn fixed_at(text: &[u8]) -> Option<(TextArg, &[u8])>
     ensures { read_view result ≡ fixed_at text.now }
@@ -118,6 +121,7 @@ fn new_id_at(text: &[u8]) -> Option<(u32, &[u8])>
     number_at(rest)
 }
 
+// A new object of the interface that the table names.
 #[tactic(auto, unfolding(crate::specs::ArgReading::new_at))]
 fn new_at(text: &[u8]) -> Option<(TextArg, &[u8])>
     ensures { read_view result ≡ new_at text.now }
@@ -159,6 +163,7 @@ fn bind_at(alloc: Global, text: &[u8]) -> Result<(TextArg, &[u8]), TextFault>
     }
 }
 
+// An array.
 #[tactic(auto, unfolding(crate::specs::ArgReading::array_at))]
 fn array_at(alloc: Global, text: &[u8]) -> Result<(TextArg, &[u8]), TextFault>
     ensures { Tells result (array_at text.now) }
@@ -169,6 +174,7 @@ fn array_at(alloc: Global, text: &[u8]) -> Result<(TextArg, &[u8]), TextFault>
     }
 }
 
+// A handle by its number.
 #[tactic(auto, unfolding(crate::specs::ArgReading::handle_at))]
 fn handle_at(text: &[u8]) -> Option<(TextArg, &[u8])>
     ensures { read_view result ≡ handle_at text.now }

@@ -1,4 +1,4 @@
-// Decimal numbers at the front of a text and at its end.
+// Decimal numbers: read at the front of a text, added at its end.
 
 ghost use Rattle.std.specs.Prelude.{◌≡◌, ◌≤◌, ◌++◌, length, decimal, OnOk};
 ghost use Rattle.std.specs.Char.{is_ascii_digit};
