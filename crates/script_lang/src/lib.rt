@@ -2,10 +2,21 @@
 #![tactic(auto)]
 
 mod causes;
+mod faults;
+mod kinds;
+mod lines;
+mod names;
+mod numbers;
+mod other_lines;
+mod peer_lines;
+mod peers;
+mod pieces;
 mod reading;
+mod rows;
 mod script;
 mod step_list;
 mod steps;
+mod things;
 
 pub use causes::{ScriptCause, ScriptRead};
 pub use reading::read_script;
