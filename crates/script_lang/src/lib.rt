@@ -23,3 +23,6 @@ pub use reading::read_script;
 pub use script::Script;
 pub use step_list::StepList;
 pub use steps::{Step, StepKind};
+
+#[cfg(test)]
+mod tests;
