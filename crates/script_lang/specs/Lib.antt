@@ -1,6 +1,7 @@
 pub mod Fields
 pub mod Grammar
 pub mod Kinds
+pub mod Laws
 pub mod Lines
 pub mod Names
 pub mod Numbers

@@ -1,9 +1,10 @@
 // Why a line is not read.
 
 ghost use Rattle.std.specs.Prelude.{◌≡◌};
-ghost use Rattle.script_lang.specs.declared.faults.LineFault.TheVariants.{Cause};
+ghost use Rattle.script_lang.specs.declared.faults.LineFault.TheVariants.{Cause, Memory};
 
 use crate::causes::ScriptCause;
+use std::alloc::AllocError;
 
 /// Why a line is not read.
 #[derive(Clone, Copy, Debug, PartialEq, Eq)]
@@ -19,5 +20,13 @@ impl From<ScriptCause> for LineFault {
 
     fn from(cause: ScriptCause) -> LineFault {
         LineFault::Cause(cause)
+    }
+}
+
+impl From<AllocError> for LineFault {
+    ghost from_gives = { λ _ fault. fault ≡ Memory };
+
+    fn from(_: AllocError) -> LineFault {
+        LineFault::Memory
     }
 }

@@ -1,15 +1,15 @@
 // The kinds of field, once they have their form.
 
-ghost use Rattle.std.specs.Prelude.{◌≡◌, ◌^◌, ◌≤◌, ◌<◌};
+ghost use Rattle.std.specs.Prelude.{◌≡◌, true, IfOk, ◌^◌, ◌≤◌, ◌<◌};
 ghost use Rattle.std.specs.List.{list_all};
-ghost use Rattle.script_lang.specs.Kinds.{number, word, size, received, own, bytes, byte, who, direction, is_lower_digit, is_hex};
+ghost use Rattle.script_lang.specs.Kinds.{number, word, size, received, own, bytes, byte, who, direction, is_lower_digit, is_hex, decoded};
 ghost use Rattle.script_lang.specs.Reading.{Read};
 ghost use Rattle.script_lang.specs.Rows.{ranged, read};
 
 use crate::causes::ScriptCause;
 use crate::faults::LineFault;
 use crate::numbers::{is_negative, number_value, unsigned};
-use std::alloc::Global;
+use std::alloc::{AllocError, Global};
 use wl_wire::Bytes;
 use wp_outside::{Direction, Side};
 
@@ -90,16 +90,17 @@ pub fn are_bytes(field: &[u8]) -> bool
     field.len() >= 2 && field.len() <= 131_072 && is_hex(field)
 }
 
-/// The bytes of digits.
-pub fn bytes(alloc: Global, field: &[u8]) -> Result<Bytes, LineFault>
-    ensures { Read result (read bytes field.now) }
+/// The bytes of an even count of digits.
+///
+/// # Errors
+/// Only where memory runs out.
+pub fn bytes(alloc: Global, field: &[u8]) -> Result<Bytes, AllocError>
+    requires { is_hex field.now ≡ true }
+    ensures { IfOk result (λ bytes. bytes ≡ decoded field.now) }
 {
-    if !are_bytes(field) {
-        return Err(LineFault::Cause(ScriptCause::Form));
-    }
     match hex::decode(alloc, field) {
         Ok(bytes) => Ok(Bytes::from_vec(bytes)),
-        Err(_) => Err(LineFault::Memory),
+        Err(_) => Err(AllocError),
     }
 }
 
@@ -111,16 +112,14 @@ pub fn is_byte(field: &[u8]) -> bool
 }
 
 /// The byte of two digits.
-pub fn byte(field: &[u8]) -> Result<u8, ScriptCause>
-    ensures { result ≡ read byte field.now }
+pub fn byte(field: &[u8]) -> u8
+    requires { byte.form field.now ≡ true }
+    ensures { result ≡ byte.value field.now }
 {
-    if !is_byte(field) {
-        return Err(ScriptCause::Form);
-    }
     let mut bytes = [0u8; 1];
     match hex::decode_to_slice(field, &mut bytes) {
-        Ok(()) => Ok(bytes[0]),
-        Err(_) => Err(ScriptCause::Form),
+        Ok(()) => bytes[0],
+        Err(_) => 0,
     }
 }
 

@@ -4,6 +4,7 @@
 mod causes;
 mod faults;
 mod kinds;
+mod laws;
 mod lines;
 mod names;
 mod numbers;
@@ -19,6 +20,7 @@ mod steps;
 mod things;
 
 pub use causes::{ScriptCause, ScriptRead};
+pub use laws::{fault_is_a_line, lines_rise, only_tested, stop_ends, too_many_lines};
 pub use reading::read_script;
 pub use script::Script;
 pub use step_list::StepList;

@@ -91,7 +91,7 @@ fn spoil(fields: Option<&[u8]>) -> Result<StepKind, ScriptCause>
             Ok(StepKind::Spoil {
                 dir: kinds::direction(dir)?,
                 offset: kinds::number(offset, 0, MOST)?,
-                byte: kinds::byte(digits)?,
+                byte: kinds::byte(digits),
             })
         }
         _ => Err(ScriptCause::Form),

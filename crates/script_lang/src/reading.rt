@@ -88,9 +88,9 @@ fn read_line(alloc: Global, peers: &mut Peers, text: &[u8]) -> Result<Option<Ste
     let what = asked(alloc, text)?;
     match peers.fault(&what) {
         Some(cause) => Err(LineFault::Cause(cause)),
-        None => match peers.keep(&what) {
-            Ok(()) => Ok(Some(what)),
-            Err(_) => Err(LineFault::Memory),
-        },
+        None => {
+            peers.keep(&what)?;
+            Ok(Some(what))
+        }
     }
 }

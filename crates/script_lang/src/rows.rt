@@ -78,8 +78,8 @@ pub fn bytes(alloc: Global, fields: Option<&[u8]>) -> Result<Bytes, LineFault>
     ensures { Read result (only bytes (fields_behind (option_copied fields.entry))) }
 {
     match one_field(fields) {
-        Some(field) => kinds::bytes(alloc, field),
-        None => Err(LineFault::Cause(ScriptCause::Form)),
+        Some(field) if kinds::are_bytes(field) => Ok(kinds::bytes(alloc, field)?),
+        _ => Err(LineFault::Cause(ScriptCause::Form)),
     }
 }
 

@@ -10,7 +10,7 @@ use Rattle.script_lang.proofs.kinds.byte.Goals as goal
 pub returns-in-Err : goal.returns-in-Err
 returns-in-Err c =
     let field = c.args.field.now in
-    let two : length field ≡ 2 = grind (arith, nat_tests, c.if-not-is_byte.ensures) in
-    let lower : list_all is_lower_digit field ≡ true = grind (arith, c.if-not-is_byte.ensures) in
+    let two : length field ≡ 2 = grind (arith, nat_tests, c.requires) in
+    let lower : list_all is_lower_digit field ≡ true = grind (arith, c.requires) in
     let read = (IsOk-written (decode_sized field 1) (Err c.in-Err.field-0) c.decode_to_slice.new.out c.in-Err.ensures.value).1 (two_decode field two lower) in
     cc read
