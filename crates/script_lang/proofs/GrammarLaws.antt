@@ -23,7 +23,7 @@ use Rattle.script_lang.specs.Lines.{asked, asked_by, peer_line, told, message_li
 use Rattle.script_lang.specs.Names.{Names, Owned, no_names, naming, fault_by, fault_of, grow_fault, fill_fault, shut_fault, unless, thing_of, can_grow, most}
 use Rattle.script_lang.specs.Pieces.{lines, front, behind, fields_behind}
 use Rattle.script_lang.specs.Puts.{is_stop, put_by_all, before_stop}
-use Rattle.script_lang.specs.Rows.{Row, ranged, read, both, only, only_of, pair, pair_of, made, none, one, two, three, three_by, four, four_by, peer_rows, other_rows}
+use Rattle.script_lang.specs.Rows.{Row, ranged, read, both, only, only_of, pair, pair_of, made, none, one, two, three, three_by, four, four_by, peer_rows, link_rows, other_rows}
 use Rattle.script_lang.specs.declared.causes.ScriptCause.{ScriptCause}
 use Rattle.script_lang.specs.declared.causes.ScriptCause.TheVariants.{Text, Word, Form, Number, Name, NotBuilt}
 use Rattle.script_lang.specs.declared.causes.ScriptRead.{ScriptRead}
@@ -151,42 +151,42 @@ peer_rows_tested peer = (
   ),
 )
 
+link_rows_tested : RowsTested link_rows
+link_rows_tested = (
+  none_tested step.Connect,
+  (
+    none_tested step.Break,
+    (
+      two_tested direction count step.Send,
+      (
+        two_tested direction count step.Recv,
+        (
+          one_tested count (step.Both Up),
+          (
+            one_tested count (step.Both Down),
+            (
+              three_row_tested direction place byte step.Spoil,
+              (two_tested direction place step.Cut, tt),
+            ),
+          ),
+        ),
+      ),
+    ),
+  ),
+)
+
 other_rows_tested : RowsTested other_rows
 other_rows_tested = (
   two_tested who count step.Take,
   (
     one_tested count step.Load,
     (
-      none_tested step.Connect,
+      one_tested who step.Close,
       (
-        none_tested step.Break,
+        none_tested step.Settle,
         (
-          two_tested direction count step.Send,
-          (
-            two_tested direction count step.Recv,
-            (
-              one_tested count (step.Both Up),
-              (
-                one_tested count (step.Both Down),
-                (
-                  three_row_tested direction place byte step.Spoil,
-                  (
-                    two_tested direction place step.Cut,
-                    (
-                      one_tested who step.Close,
-                      (
-                        none_tested step.Settle,
-                        (
-                          one_tested count step.Drain,
-                          (none_tested step.Stop, tt),
-                        ),
-                      ),
-                    ),
-                  ),
-                ),
-              ),
-            ),
-          ),
+          one_tested count step.Drain,
+          (none_tested step.Stop, link_rows_tested),
         ),
       ),
     ),

@@ -92,11 +92,9 @@ peer_rows peer =
     (codes "shut", one (own peer) (step.Shut peer)) ∷
     (codes "await", one (number 0 1000000) (step.Await peer)) ∷ []
 
--- the other lines: the word, and the fields behind it
-abbrev pub other_rows : List (List ℕ × Row)
-other_rows =
-    (codes "take", two who count step.Take) ∷
-    (codes "load", one count step.Load) ∷
+-- lines of connections and of the link: the word, and the fields behind it
+abbrev pub link_rows : List (List ℕ × Row)
+link_rows =
     (codes "connect", none step.Connect) ∷
     (codes "break", none step.Break) ∷
     (codes "send", two direction count step.Send) ∷
@@ -104,8 +102,14 @@ other_rows =
     (codes "up", one count (step.Both Up)) ∷
     (codes "down", one count (step.Both Down)) ∷
     (codes "spoil", three direction place byte step.Spoil) ∷
-    (codes "cut", two direction place step.Cut) ∷
+    (codes "cut", two direction place step.Cut) ∷ []
+
+-- all lines that begin with no peer
+abbrev pub other_rows : List (List ℕ × Row)
+other_rows =
+    (codes "take", two who count step.Take) ∷
+    (codes "load", one count step.Load) ∷
     (codes "close", one who step.Close) ∷
     (codes "settle", none step.Settle) ∷
     (codes "drain", one count step.Drain) ∷
-    (codes "stop", none step.Stop) ∷ []
+    (codes "stop", none step.Stop) ∷ link_rows

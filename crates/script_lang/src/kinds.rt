@@ -119,7 +119,7 @@ pub fn byte(field: &[u8]) -> u8
     let mut bytes = [0u8; 1];
     match hex::decode_to_slice(field, &mut bytes) {
         Ok(()) => bytes[0],
-        Err(_) => 0,
+        Err(_) => unreachable!(),
     }
 }
 

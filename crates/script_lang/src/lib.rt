@@ -6,6 +6,7 @@ mod faults;
 mod kinds;
 mod laws;
 mod lines;
+mod link_lines;
 mod names;
 mod numbers;
 mod other_lines;

@@ -1,22 +1,17 @@
-// Lines of the link and of the replay.
+// Lines that begin with no peer.
 
 ghost use Rattle.std.specs.Prelude.{◌≡◌};
 ghost use Rattle.std.specs.Map.{lookup};
 ghost use Rattle.std.specs.Option.{option_copied};
 ghost use Rattle.std.specs.Str.{bytes_eq};
-ghost use Rattle.script_lang.specs.Kinds.{direction, place, byte};
 ghost use Rattle.script_lang.specs.Lines.{other_line};
-ghost use Rattle.script_lang.specs.Pieces.{fields_behind};
-ghost use Rattle.script_lang.specs.Rows.{three, other_rows};
-ghost use Rattle.script_lang.specs.declared.steps.StepKind.TheVariants as step;
+ghost use Rattle.script_lang.specs.Rows.{other_rows};
 
 use crate::causes::ScriptCause;
-use crate::numbers::is_number;
-use crate::pieces::three_fields;
+use crate::link_lines::link_line;
+use crate::rows;
 use crate::rows::MOST;
 use crate::steps::StepKind;
-use crate::{kinds, rows};
-use wp_outside::Direction;
 
 /// What a line without a peer in front asks for, by its first word and what stands behind.
 pub fn other_line(word: &[u8], fields: Option<&[u8]>) -> Result<StepKind, ScriptCause>
@@ -29,41 +24,6 @@ pub fn other_line(word: &[u8], fields: Option<&[u8]>) -> Result<StepKind, Script
     if word == b"load".as_slice() {
         let words = rows::number(fields, 1, MOST)?;
         return Ok(StepKind::Load { words });
-    }
-    if word == b"connect".as_slice() {
-        return rows::nothing(fields, StepKind::Connect);
-    }
-    if word == b"break".as_slice() {
-        return rows::nothing(fields, StepKind::Break);
-    }
-    if word == b"send".as_slice() {
-        let (dir, bytes) = rows::direction_and_number(fields, 1)?;
-        return Ok(StepKind::Send { dir, bytes });
-    }
-    if word == b"recv".as_slice() {
-        let (dir, bytes) = rows::direction_and_number(fields, 1)?;
-        return Ok(StepKind::Recv { dir, bytes });
-    }
-    if word == b"up".as_slice() {
-        let bytes = rows::number(fields, 1, MOST)?;
-        return Ok(StepKind::Both {
-            dir: Direction::Up,
-            bytes,
-        });
-    }
-    if word == b"down".as_slice() {
-        let bytes = rows::number(fields, 1, MOST)?;
-        return Ok(StepKind::Both {
-            dir: Direction::Down,
-            bytes,
-        });
-    }
-    if word == b"spoil".as_slice() {
-        return spoil(fields);
-    }
-    if word == b"cut".as_slice() {
-        let (dir, bytes) = rows::direction_and_number(fields, 0)?;
-        return Ok(StepKind::Cut { dir, bytes });
     }
     if word == b"close".as_slice() {
         let peer = rows::who(fields)?;
@@ -79,21 +39,5 @@ pub fn other_line(word: &[u8], fields: Option<&[u8]>) -> Result<StepKind, Script
     if word == b"stop".as_slice() {
         return rows::nothing(fields, StepKind::Stop);
     }
-    Err(ScriptCause::Word)
-}
-
-/// A place among the bytes that wait in the link, and the byte that shall stand there.
-fn spoil(fields: Option<&[u8]>) -> Result<StepKind, ScriptCause>
-    ensures { result ≡ three direction place byte step.Spoil (fields_behind (option_copied fields.entry)) }
-{
-    match three_fields(fields) {
-        Some((dir, offset, digits)) if is_number(offset) && kinds::is_byte(digits) => {
-            Ok(StepKind::Spoil {
-                dir: kinds::direction(dir)?,
-                offset: kinds::number(offset, 0, MOST)?,
-                byte: kinds::byte(digits),
-            })
-        }
-        _ => Err(ScriptCause::Form),
-    }
+    link_line(word, fields)
 }

@@ -7,8 +7,8 @@ use Rattle.script_lang.specs.Kinds.{is_lower_digit}
 use Rattle.script_lang.proofs.DigitLemmas.{two_decode}
 use Rattle.script_lang.proofs.kinds.byte.Goals as goal
 
-pub returns-in-Err : goal.returns-in-Err
-returns-in-Err c =
+pub unreachable-requires : goal.unreachable-requires
+unreachable-requires c =
     let field = c.args.field.now in
     let two : length field ≡ 2 = grind (arith, nat_tests, c.requires) in
     let lower : list_all is_lower_digit field ≡ true = grind (arith, c.requires) in
