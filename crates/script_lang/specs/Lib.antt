@@ -1,2 +1,11 @@
+pub mod Fields
 pub mod Grammar
+pub mod Kinds
+pub mod Laws
+pub mod Lines
+pub mod Names
+pub mod Numbers
+pub mod Pieces
 pub mod Puts
+pub mod Reading
+pub mod Rows

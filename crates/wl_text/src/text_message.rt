@@ -1,5 +1,9 @@
 // A message as it is read from its text.
 
+ghost use Rattle.std.specs.Prelude.{◌≡◌};
+ghost use Rattle.wl_text.specs.declared.text_message.TextFault.TheVariants.{Memory};
+
+use std::alloc::AllocError;
 use wl_tables::Interface;
 use wl_wire::{HandleNumbers, Message};
 
@@ -21,4 +25,12 @@ pub enum TextFault {
     Form,
     /// Memory ran out.
     Memory,
+}
+
+impl From<AllocError> for TextFault {
+    ghost from_gives = { λ _ fault. fault ≡ Memory };
+
+    fn from(_error: AllocError) -> TextFault {
+        TextFault::Memory
+    }
 }

@@ -1,0 +1,5 @@
+pub mod DigitLemmas
+pub mod GrammarLaws
+pub mod NumberLemmas
+pub mod PieceLemmas
+pub mod ReadingLemmas

@@ -1,0 +1,5 @@
+use Rattle.script_lang.proofs.GrammarLaws.{only_tested_causes}
+use Rattle.script_lang.proofs.laws.only_tested.Goals as goal
+
+pub returns : goal.returns
+returns c = only_tested_causes

@@ -1,0 +1,17 @@
+pub mod ArgTextBack
+pub mod ArgTextLaws
+pub mod ArgValuesLemmas
+pub mod ArgsTextLaws
+pub mod DecimalLaws
+pub mod Digits
+pub mod EnclosedLaws
+pub mod FrontLaws
+pub mod HeadLaws
+pub mod ItemLaws
+pub mod Items
+pub mod HandleCounts
+pub mod MessageTextLaws
+pub mod PrintLemmas
+pub mod TableFacts
+pub mod TextArgsLemmas
+pub mod WireBytes

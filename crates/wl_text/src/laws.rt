@@ -1,0 +1,30 @@
+// Laws of the text: each function does nothing, and its clause is the law.
+
+ghost use Rattle.wl_text.specs.TextLaws.{ReadIsText, ReadPrints, PrintedIsRead, OneMessage};
+
+use wl_tables::{interface_tells_name, opcode_tells_name};
+
+/// A line is read as a message exactly where it is the text of that message, and what is read prints as the line.
+pub fn read_is_text()
+    ensures exact { ReadIsText }
+    ensures prints { ReadPrints }
+{
+    opcode_tells_name();
+    interface_tells_name();
+}
+
+/// A message is read again from its text, with zeros as padding.
+pub fn printed_is_read()
+    ensures { PrintedIsRead }
+{
+    opcode_tells_name();
+    interface_tells_name();
+}
+
+/// A line is the text of one message at most.
+pub fn line_is_one_message()
+    ensures { OneMessage }
+{
+    opcode_tells_name();
+    interface_tells_name();
+}

@@ -1,0 +1,28 @@
+// Messages as text, both ways.
+
+mod long;
+mod refused;
+mod rows;
+mod table;
+
+use crate::{TextFault, TextMessage, print_message, read_is_text, read_message};
+use std::alloc::Global;
+use wl_tables::Way;
+use wl_wire::Text;
+
+const UP: Way = Way::Request;
+
+const DOWN: Way = Way::Event;
+
+// The message of a line, and the text of that message.
+fn again(alloc: Global, line: &[u8], way: Way) -> Result<(TextMessage, Text), TextFault> {
+    read_is_text();
+    match read_message(alloc, line, way) {
+        Ok(it) => {
+            let handles = it.handles.as_slice();
+            let text = print_message(alloc, it.interface, way, &it.message, handles)?;
+            Ok((it, text))
+        }
+        Err(fault) => Err(fault),
+    }
+}
