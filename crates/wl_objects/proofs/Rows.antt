@@ -9,7 +9,7 @@ use Rattle.wl_wire.specs.declared.faults.WireFault.{WireFault}
 use Rattle.wl_tables.specs.Messages.{signature}
 use Rattle.wl_tables.specs.declared.interface.Interface.{Interface}
 use Rattle.wl_tables.specs.declared.way.Way.{Way}
-use Rattle.wl_objects.specs.ArgValues.{args_in}
+use Rattle.wl_wire.specs.ArgValues.{args_in}
 use Rattle.wl_objects.specs.Entries.{Tracked, addressed, with_deleted, with_destroyed, with_new}
 use Rattle.wl_objects.specs.ObjectLaws.{IsByTheTable, PassedByTheTable}
 use Rattle.wl_objects.specs.Tracking.{deleted_of, found, is_event, made_by_message, read_by, read_row, reading, Step, then_goes}

@@ -12,13 +12,13 @@ use Rattle.wl_tables.specs.declared.interface.Interface.TheVariants.{WlRegistry}
 use Rattle.wl_tables.specs.Messages.{signature}
 use Rattle.wl_objects.specs.declared.registry_event.RegistryEvent.{RegistryEvent}
 use Rattle.wl_objects.specs.declared.registry_event.RegistryEvent.TheVariants.{Global, Remove, Other}
-use Rattle.wl_objects.specs.ArgValues.{args_in}
+use Rattle.wl_wire.specs.ArgValues.{args_in}
 use Rattle.wl_objects.specs.Entries.{Tracked, entry_at, is_registry}
 use Rattle.wl_objects.specs.Tracking.{uint_of}
 use Rattle.wl_objects.specs.Registry.{Pair, view_event, view_remove, event_in, event_of, registry_args, args_by, good_args, is_hidden, with_version}
 use Rattle.wl_objects.specs.ObjectLaws.{ShownIsWhole}
 use Rattle.wl_objects.proofs.Room.{room-for-uint}
-use Rattle.wl_objects.proofs.Values.{args-in}
+use Rattle.wl_wire.proofs.ArgValuesLemmas.{args-in}
 use Rattle.wl_objects.proofs.Versions.{whole-with_version}
 
 -- a registry's event whose first argument is a number has room for it

@@ -1,4 +1,3 @@
-pub mod ArgValues
 pub mod Answering
 pub mod Entries
 pub mod ObjectLaws

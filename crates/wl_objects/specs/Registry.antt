@@ -21,7 +21,7 @@ use Rattle.wl_tables.specs.Messages.{signature}
 use Rattle.wl_tables.specs.Interfaces.{interface_of, max_version}
 use Rattle.wl_objects.specs.declared.registry_event.RegistryEvent.{RegistryEvent}
 use Rattle.wl_objects.specs.declared.registry_event.RegistryEvent.TheVariants.{Global, Remove, Other}
-use Rattle.wl_objects.specs.ArgValues.{args_in}
+use Rattle.wl_wire.specs.ArgValues.{args_in}
 use Rattle.wl_objects.specs.Entries.{Tracked, entry_at, is_registry, first_objects}
 use Rattle.wl_objects.specs.Tracking.{Step, step}
 

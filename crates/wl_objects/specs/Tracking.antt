@@ -18,7 +18,7 @@ use Rattle.wl_tables.specs.Messages.{signature, new_interface}
 use Rattle.wl_objects.specs.declared.entry.NewObject.{NewObject}
 use Rattle.wl_objects.specs.declared.passed.Passed.{Passed}
 use Rattle.wl_objects.specs.declared.reading.Reading.{Reading}
-use Rattle.wl_objects.specs.ArgValues.{args_in}
+use Rattle.wl_wire.specs.ArgValues.{args_in}
 use Rattle.wl_objects.specs.Entries.{Tracked, addressed, with_new, with_destroyed, with_deleted}
 
 -- the value, or the cause that it isn't there

@@ -3,7 +3,7 @@
 ghost use Rattle.std.specs.Prelude.{◌≡◌, ◌≤◌, ◌++◌, Ok, Some, nat_le, if◌then◌else◌, length, drop, IsTrue, IsSome, IfOk, OnErr};
 ghost use Rattle.wl_wire.specs.Wire.{object_of, first};
 ghost use Rattle.wl_wire.specs.ArgFaults.{args_fault};
-ghost use Rattle.wl_objects.specs.ArgValues.{args_in};
+ghost use Rattle.wl_wire.specs.ArgValues.{args_in};
 ghost use Rattle.wl_objects.specs.Tracking.{uint_of};
 ghost use Rattle.wl_objects.specs.Registry.{has_version, event_in, good_args, registry_args, with_version, view_global, view_remove, view_event};
 

@@ -1,6 +1,5 @@
 pub mod ArgTextBack
 pub mod ArgTextLaws
-pub mod ArgValuesLemmas
 pub mod ArgsTextLaws
 pub mod DecimalLaws
 pub mod Digits

@@ -15,7 +15,7 @@ use Rattle.wl_wire.specs.ArgLaws.{FitSlots, zero_padded}
 use Rattle.wl_wire.specs.Building.{args_bytes, built}
 use Rattle.wl_wire.specs.SignatureForm.{SignatureForm}
 use Rattle.wl_wire.specs.Wire.{object_of, opcode_of, IsMessage}
-use Rattle.wl_wire.proofs.ArgPadding.{AreBytes, args-long, read-is-built}
+use Rattle.wl_wire.proofs.ArgPadding.{AreBytes, args-long, read-is-built, word_at-small}
 use Rattle.wl_wire.proofs.ArgRoundTrip.{good-is-spelled, built-is-read}
 use Rattle.wl_wire.proofs.ArgShapes.{spells-fault}
 use Rattle.wl_wire.proofs.BuildingLemmas.{built-message}
@@ -32,11 +32,11 @@ use Rattle.wl_text.specs.ArgTexts.{args_text}
 use Rattle.wl_text.specs.Text.{start_text, call_text, row_text, text_of, head_at, last_args_at, message_from, message_of}
 use Rattle.wl_text.specs.TextLaws.{IsText, PrintedIsRead, OneMessage}
 use Rattle.wl_text.proofs.FrontLaws.{if-some, some-same, then-some}
-use Rattle.wl_text.proofs.ArgValuesLemmas.{args-in}
+use Rattle.wl_wire.proofs.ArgValuesLemmas.{args-in}
 use Rattle.wl_text.proofs.ArgsTextLaws.{AreSaid}
 use Rattle.wl_text.proofs.HandleCounts.{named-counts, counted-names}
 use Rattle.wl_text.proofs.HeadLaws.{IsHead, named_text, in-table, head-sound, head-complete, last-sound, last-complete}
-use Rattle.wl_text.proofs.WireBytes.{word-below, args-good, built-bytes, built-object, built-opcode}
+use Rattle.wl_text.proofs.WireBytes.{args-good, built-bytes, built-object, built-opcode}
 
 -- the text of a message of this row that these arguments spell
 text-at : (interface : Interface) (way : Way) (message : List ℕ) (handles : List ℤ) (row : MessageRow) (args : List Arg) → slice_get (messages interface way) (opcode_of message) ≡ Some row → Spells (form_of row).slots (drop 8 message) args → text_of interface way message handles ≡ start_text interface (object_of message) ++ call_text row.name args handles
@@ -63,7 +63,7 @@ module _ (opcodes : OpcodeTellsName) (names : InterfaceTellsName) where
       let named = counted-names form.slots args handles good.0 (it.prints.named ∙ sym table.counted, it.numbers) in
       let text = text-at interface way message handles row args it.prints.stands spelled.1 in
       let arguments : List ℕ = args_text [] args handles ++ codes ")" in
-      let head = head-complete opcodes names way interface (object_of message) (opcode_of message) row arguments it.prints.stands (word-below message it.bytes) in
+      let head = head-complete opcodes names way interface (object_of message) (opcode_of message) row arguments it.prints.stands (word_at-small message 0 it.bytes) in
       let last = last-complete form args handles good.0 good.1 named in
       let long = args-long form.slots body args spelled.1 in
       let short : 8 + length (args_bytes args) ≤ 65532 = omega (arith, long, length-drop 8 message, it.whole.is_bounded, it.whole.has_header) in

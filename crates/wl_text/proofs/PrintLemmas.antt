@@ -10,9 +10,9 @@ use Rattle.wl_wire.specs.SignatureForm.{SignatureForm}
 use Rattle.wl_wire.specs.declared.arguments.Arg.{Arg}
 use Rattle.wl_wire.specs.Arguments.{Spells}
 use Rattle.wl_wire.specs.Wire.{object_of, opcode_of}
-use Rattle.wl_text.specs.ArgValues.{args_in}
+use Rattle.wl_wire.specs.ArgValues.{args_in}
 use Rattle.wl_text.specs.Text.{is_event, start_text, call_text, row_text, text_of}
-use Rattle.wl_text.proofs.ArgValuesLemmas.{args-in}
+use Rattle.wl_wire.proofs.ArgValuesLemmas.{args-in}
 
 pub way-again : (way : Way) → way_of (is_event way) ≡ way
 way-again Request = refl

@@ -1,8 +1,7 @@
 -- What arguments that bytes spell are like: they fit their places, and what they hold are bytes; and back.
-use Rattle.std.proofs.Common.{◌≡◌, ℕ, ℤ, ◌+◌, ◌*◌, ◌/◌, ◌%◌, ◌^◌, ◌<◌, ◌≤◌, List, [], ◌∷◌, ◌++◌, length, drop, get_or, slice_index, Bool, Fits, FitsSigned, w32, refl, sym, ap, ◌∙◌, subst, inl, inr, arith, length-append}
-use Rattle.std.proofs.lemmas.Bool.{cases_lt}
-use Rattle.std.proofs.lemmas.List.{take_at, drop_at, get_or_past}
-use Rattle.std.proofs.lemmas.List.Elements.{All-append, All-cons, All-nil, All-get_or, All-take, All-drop, All-replicate}
+use Rattle.std.proofs.Common.{◌≡◌, ℕ, ℤ, ◌+◌, ◌*◌, ◌/◌, ◌%◌, ◌^◌, ◌<◌, ◌≤◌, List, [], ◌∷◌, ◌++◌, length, drop, Bool, Fits, FitsSigned, w32, sym, ap, ◌∙◌, subst, arith, length-append}
+use Rattle.std.proofs.lemmas.List.{drop_at}
+use Rattle.std.proofs.lemmas.List.Elements.{All-append, All-cons, All-nil, All-replicate}
 use Rattle.std.proofs.Math.Facts.{Fits-of_lt, sfits_to_z}
 use Rattle.std.specs.Int.{cast_unsigned}
 use Rattle.wl_wire.specs.declared.arguments.Arg.{Arg}
@@ -14,7 +13,7 @@ use Rattle.wl_wire.specs.Wire.{word_at, object_of, opcode_of}
 use Rattle.wl_wire.specs.Arguments.{padding_of, IsWord, IsSigned, IsCounted, IsString, IsBind, IsArg, Spells}
 use Rattle.wl_wire.specs.Building.{word_bytes, counted_bytes, string_bytes_of, arg_bytes, args_bytes, built}
 use Rattle.wl_wire.specs.ArgLaws.{FitsSlot, FitSlots}
-use Rattle.wl_wire.proofs.ArgPadding.{AreBytes}
+use Rattle.wl_wire.proofs.ArgPadding.{AreBytes, word_at-small, front-bytes, back-bytes}
 use Rattle.wl_wire.proofs.ArgReading.{word_at-drop}
 use Rattle.wl_wire.proofs.BuildingLemmas.{length-word_bytes, word_at-word_bytes}
 use Rattle.wl_wire.proofs.FrontLemmas.{word_at-append}
@@ -24,35 +23,12 @@ use Rattle.wl_text.proofs.ArgsTextLaws.{AllHold}
 abbrev IsByte : ℕ → Type 0
 IsByte byte = byte < 256
 
-byte-below : (bytes : List ℕ) → AreBytes bytes → (i : ℕ) → get_or bytes i 0 < 256
-byte-below bytes small i =
-    elim (cases_lt i (length bytes)) [
-      | inl within ↦ All-get_or IsByte bytes i 0 within small
-      | inr past ↦ (let zero : get_or bytes i 0 ≡ 0 = get_or_past bytes i 0 past in omega arith)
-    ]
-
-pub word-below : (bytes : List ℕ) → AreBytes bytes → word_at bytes 0 < 2 ^ 32
-unfolding word_at
-word-below bytes small =
-    let a : slice_index bytes 0 < 256 = byte-below bytes small 0 in
-    let b : slice_index bytes (0 + 1) < 256 = byte-below bytes small (0 + 1) in
-    let c : slice_index bytes (0 + 2) < 256 = byte-below bytes small (0 + 2) in
-    let d : slice_index bytes (0 + 3) < 256 = byte-below bytes small (0 + 3) in
-    omega arith
-
--- the parts of bytes
-front-bytes : (front back : List ℕ) → AreBytes (front ++ back) → AreBytes front
-front-bytes front back small = subst AreBytes (take_at front back (length front) refl) (All-take IsByte (length front) (front ++ back) small)
-
-back-bytes : (front back : List ℕ) → AreBytes (front ++ back) → AreBytes back
-back-bytes front back small = subst AreBytes (drop_at front back (length front) refl) (All-drop IsByte (length front) (front ++ back) small)
-
 word-fits : (bytes : List ℕ) (value : ℕ) → AreBytes bytes → IsWord bytes value → value < 2 ^ 32
-word-fits bytes value small it = subst (λ n. n < 2 ^ 32) it.reads (word-below bytes small)
+word-fits bytes value small it = subst (λ n. n < 2 ^ 32) it.reads (word_at-small bytes 0 small)
 
 signed-fits : (bytes : List ℕ) (value : ℤ) → AreBytes bytes → IsSigned bytes value → FitsSigned w32 value
 signed-fits bytes value small it =
-    let below = word-below bytes small in
+    let below = word_at-small bytes 0 small in
     let fits : Fits w32 (word_at bytes 0) = Fits-of_lt below in
     subst (λ n. FitsSigned w32 n) it.reads (sfits_to_z fits)
 

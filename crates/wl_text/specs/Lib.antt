@@ -1,7 +1,6 @@
 pub mod Answers
 pub mod ArgReading
 pub mod ArgTexts
-pub mod ArgValues
 pub mod Decimals
 pub mod Enclosed
 pub mod Front

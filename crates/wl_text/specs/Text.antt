@@ -19,7 +19,7 @@ use Rattle.wl_text.specs.declared.text_message.TextFault.TheVariants.{Form, Memo
 use Rattle.wl_text.specs.declared.text_message.TextMessage.{TextMessage}
 use Rattle.wl_text.specs.Front.{Read, ◌>>=◌, behind, split_before}
 use Rattle.wl_text.specs.Decimals.{number_at}
-use Rattle.wl_text.specs.ArgValues.{args_in}
+use Rattle.wl_wire.specs.ArgValues.{args_in}
 use Rattle.wl_text.specs.ArgTexts.{args_text}
 use Rattle.wl_text.specs.ArgReading.{args_at}
 use Rattle.wl_text.specs.declared.arg_reading.TextArgs.{TextArgs}

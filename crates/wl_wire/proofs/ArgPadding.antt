@@ -32,7 +32,7 @@ byte-below bytes small i =
       | inr past ↦ (let zero : get_or bytes i 0 ≡ 0 = get_or_past bytes i 0 past in omega arith)
     ]
 
-word_at-small : (bytes : List ℕ) (at : ℕ) → AreBytes bytes → word_at bytes at < 2 ^ 32
+pub word_at-small : (bytes : List ℕ) (at : ℕ) → AreBytes bytes → word_at bytes at < 2 ^ 32
 unfolding word_at
 word_at-small bytes at small =
     let a : slice_index bytes at < 256 = byte-below bytes small at in
@@ -57,12 +57,12 @@ is-signed-again bytes value small it =
     ap (λ n. word_bytes (cast_unsigned w32 n)) (sym it.reads) ∙ ap word_bytes back ∙ word-again bytes small it.four
 
 -- the front of bytes
-front-bytes : (front back : List ℕ) → AreBytes (front ++ back) → AreBytes front
+pub front-bytes : (front back : List ℕ) → AreBytes (front ++ back) → AreBytes front
 front-bytes front back small =
     let P : List ℕ → Type 0 = λ bytes. AreBytes bytes in
     subst P (take_at front back (length front) refl) (All-take (λ byte. byte < 256) (length front) (front ++ back) small)
 
-back-bytes : (front back : List ℕ) → AreBytes (front ++ back) → AreBytes back
+pub back-bytes : (front back : List ℕ) → AreBytes (front ++ back) → AreBytes back
 back-bytes front back small =
     let P : List ℕ → Type 0 = λ bytes. AreBytes bytes in
     subst P (drop_at front back (length front) refl) (All-drop (λ byte. byte < 256) (length front) (front ++ back) small)

@@ -6,5 +6,6 @@ pub mod ArgLists
 pub mod BuildingLemmas
 pub mod ArgShapes
 pub mod ArgUnique
+pub mod ArgValuesLemmas
 pub mod ArgRoundTrip
 pub mod ArgPadding

@@ -1,6 +1,7 @@
 pub mod ArgFaults
 pub mod ArgLaws
 pub mod ArgStep
+pub mod ArgValues
 pub mod Arguments
 pub mod Building
 pub mod Framing

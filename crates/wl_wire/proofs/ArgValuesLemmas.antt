@@ -13,7 +13,7 @@ use Rattle.wl_wire.specs.ArgFaults.{arg_size}
 use Rattle.wl_wire.proofs.FrontLemmas.{word_at-append}
 use Rattle.wl_wire.proofs.ArgShapes.{HasCounted, has_counted, arg-size}
 use Rattle.wl_wire.proofs.ArgUnique.{counted-is}
-use Rattle.wl_text.specs.ArgValues.{text_in, arg_in, arg_front, args_in}
+use Rattle.wl_wire.specs.ArgValues.{text_in, arg_in, arg_front, args_in}
 
 -- a string at the front
 text-front : (front rest text : List ℕ) → IsString front text → text_in (front ++ rest) ≡ text
