@@ -1,3 +1,4 @@
+pub mod AllowedOrders
 pub mod Fronts
 pub mod FrameRows
 pub mod Lines
