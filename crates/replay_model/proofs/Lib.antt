@@ -4,9 +4,11 @@ pub mod FrameRows
 pub mod Lines
 pub mod ManyMoves
 pub mod OneMove
+pub mod OneWay
 pub mod Passages
 pub mod Pulling
 pub mod RunEnds
+pub mod SameMoves
 pub mod Settling
 pub mod Sides
 pub mod Standing

@@ -255,7 +255,7 @@ first_took : (side : Side) → Took side first_half
 first_took Near = record { passes = passes_nothing; taken = sym cut_nothing.messages; fine = cut_nothing.fine; within = nothing_least 0 }
 first_took Far = record { passes = passes_nothing; taken = sym cut_nothing.messages; fine = cut_nothing.fine; within = nothing_least 0 }
 
-first_stands : Stands first_pair
+pub first_stands : Stands first_pair
 first_stands = record {
   near = first_took Near;
   far = first_took Far;

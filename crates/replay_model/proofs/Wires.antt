@@ -111,7 +111,7 @@ pub record AfterTake (side : Side) (old new : Half) (refused : Option Refusal) :
   pub comes : TakeComes side new refused
 
 -- the half after bytes up to a place were taken
-abbrev upto_half : Side → Half → ℕ → Half
+abbrev pub upto_half : Side → Half → ℕ → Half
 upto_half side half upto = record half { taken = upto; order = (taking side half upto).order }
 
 -- the messages among the first bytes, behind those that were passed before
