@@ -27,6 +27,7 @@ use Rattle.replay_model.specs.declared.ends.Fault.TheVariants.{Peer, Frame}
 use Rattle.replay_model.specs.declared.ends.Refusal.{Refusal}
 use Rattle.replay_model.proofs.Fronts.{starts_refl, starts_same, starts_trans, starts_append, starts_length, within_or_beyond}
 use Rattle.replay_model.proofs.Lines.{PartedAll, Outcome, Ended, HasPut, all_parted_grows, put_by_more}
+use Rattle.replay_model.proofs.Options.{not_both}
 use Rattle.replay_model.proofs.RunEnds.{Kept, kept, all_put}
 use Rattle.replay_model.proofs.Standing.{After, PeerFell, FrameFell}
 use Rattle.replay_model.proofs.Ways.{requests_added, events_added, requests_stay, events_stay, visible_more}
@@ -86,10 +87,7 @@ ended_allowed steps pair end it =
 
 -- an order with one more message does not pass where that is refused
 not_passes : (order : List (Way × List ℕ)) (way : Way) (message : List ℕ) (cause : Refusal) → refusal order way message ≡ Some cause → Passes (order ++ (way, message) ∷ []) → ⊥
-not_passes order way message cause is passes = two_ways (refusal order way message) is (passes.none_refused order [] (way, message) refl)
-  where
-    two_ways : (told : Option Refusal) → told ≡ Some cause → told ≡ None → ⊥
-    two_ways told a b = cc
+not_passes order way message cause is passes = not_both (refusal order way message) cause is (passes.none_refused order [] (way, message) refl)
 
 -- with the next message behind them the messages of a way are a front still
 next_starts : (order whole rest : List (List ℕ)) (message : List ℕ) → whole ≡ order ++ message ∷ rest → Starts (order ++ message ∷ []) whole
@@ -157,10 +155,7 @@ far_refused steps done more near far way message cause all lines parted refused 
 size_met : (side : Side) (steps : List Step) (pair : Pair) (more : List ℕ) (fault : WireFault) → puts side steps ≡ (half_of side pair).put ++ more → cut_fault (half_of side pair).put ≡ Some fault → cut_fault (puts side steps) ≡ None → ⊥
 size_met side steps pair more fault is met fine =
     let stuck : Stuck (half_of side pair).put ((half_of side pair).put ++ more) fault = stuck_more (half_of side pair).put more fault met in
-    two_ways (cut_fault (puts side steps)) (ap cut_fault is ∙ stuck.met) fine
-  where
-    two_ways : (told : Option WireFault) → told ≡ Some fault → told ≡ None → ⊥
-    two_ways told a b = cc
+    not_both (cut_fault (puts side steps)) fault (ap cut_fault is ∙ stuck.met) fine
 
 near_peer : (steps done more : List Step) (pair : Pair) (cause : Refusal) → AllPass steps → before_stop steps ≡ done ++ more → HasPut done pair → PartedAll done pair.near.order pair.far.order → Kept pair
     → NextIs Near pair.near cause ⊎ SizeIs Near pair.near cause → ⊥

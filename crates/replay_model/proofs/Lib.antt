@@ -5,6 +5,7 @@ pub mod Lines
 pub mod ManyMoves
 pub mod OneMove
 pub mod OneWay
+pub mod Options
 pub mod Passages
 pub mod Pulling
 pub mod RunEnds

@@ -4,7 +4,7 @@
 -- that each line that moves all that waits has parted the messages of the Wayland protocol before it from those behind it
 -- (`PartedAll`). `Ended` is what holds at the end: the lines that were done, those that were not, and how it stands there. All
 -- laws of runs follow from `ended`.
-use Rattle.std.proofs.Common.{◌≡◌, ℕ, ◌+◌, ◌≤◌, Bool, true, false, cond, List, [], ◌∷◌, ◌++◌, length, take, Option, Some, None, max, inl, inr, refl, sym, ap, ◌∙◌, subst, subst₂, append_assoc, append-nil, arith, take_all}
+use Rattle.std.proofs.Common.{◌≡◌, ℕ, ◌+◌, ◌≤◌, Bool, true, false, cond, List, [], ◌∷◌, ◌++◌, length, take, Option, Some, None, max, inl, inr, refl, sym, ap, ◌∙◌, subst, subst₂, append_assoc, append-nil, arith, take_all, le_refl}
 use Rattle.wl_tables.specs.declared.way.Way.{Way}
 use Rattle.wl_tables.specs.declared.way.Way.TheVariants.{Request, Event}
 use Rattle.wl_wire.specs.Wire.{cut, cut_fault}
@@ -85,10 +85,7 @@ all_parted_grows done near far near_later far_later n f all before after it is m
 
 -- where nothing waits the messages are parted
 taken_all : (side : Side) (half : Half) → Took side half → half.taken ≡ length half.put → taken_by side half ≡ cut half.put
-taken_all side half it all = it.taken ∙ ap cut (ap (λ (n : ℕ). take n half.put) all ∙ take_all (length half.put) half.put (at_least (length half.put)))
-  where
-    at_least : (n : ℕ) → n ≤ n
-    at_least n = omega arith
+taken_all side half it all = it.taken ∙ ap cut (ap (λ (n : ℕ). take n half.put) all ∙ take_all (length half.put) half.put (le_refl (length half.put)))
 
 given_all : (writer reader : Side) (from to : Half) → Flows writer reader from to → from.pushed ≡ length (frames_of (made_by writer from)) → to.pulled ≡ from.pushed → given_by reader to ≡ made_by writer from
 given_all writer reader from to it pushed pulled = it.given ∙ ap (whole_in (made_by writer from)) (pulled ∙ pushed) ∙ whole_all (made_by writer from)
@@ -103,10 +100,7 @@ pub record MovedAll (pair : Pair) : Type 0 where
   pub down : given_by Near pair.near ≡ made_by Far pair.far
 
 all_fine : (side : Side) (half : Half) → Took side half → half.taken ≡ length half.put → cut_fault half.put ≡ None
-all_fine side half it all = ap cut_fault (sym (ap (λ (n : ℕ). take n half.put) all ∙ take_all (length half.put) half.put (at_least (length half.put)))) ∙ it.fine
-  where
-    at_least : (n : ℕ) → n ≤ n
-    at_least n = omega arith
+all_fine side half it all = ap cut_fault (sym (ap (λ (n : ℕ). take n half.put) all ∙ take_all (length half.put) half.put (le_refl (length half.put)))) ∙ it.fine
 
 pub moved_all : (pair : Pair) → Stands pair → Settled pair → MovedAll pair
 moved_all pair it all = record {
@@ -248,19 +242,16 @@ ended (it ∷ steps) whole done most old new end some here plays =
 
 -- ---- the whole script
 
-nothing_least : (n : ℕ) → 0 ≤ n
-nothing_least n = omega arith
-
 first_took : (side : Side) → Took side first_half
-first_took Near = record { passes = passes_nothing; taken = sym cut_nothing.messages; fine = cut_nothing.fine; within = nothing_least 0 }
-first_took Far = record { passes = passes_nothing; taken = sym cut_nothing.messages; fine = cut_nothing.fine; within = nothing_least 0 }
+first_took Near = record { passes = passes_nothing; taken = sym cut_nothing.messages; fine = cut_nothing.fine; within = le_refl 0 }
+first_took Far = record { passes = passes_nothing; taken = sym cut_nothing.messages; fine = cut_nothing.fine; within = le_refl 0 }
 
 pub first_stands : Stands first_pair
 first_stands = record {
   near = first_took Near;
   far = first_took Far;
-  up = record { given = refl; pulled = nothing_least 0; pushed = nothing_least 0 };
-  down = record { given = refl; pulled = nothing_least 0; pushed = nothing_least 0 };
+  up = record { given = refl; pulled = le_refl 0; pushed = le_refl 0 };
+  down = record { given = refl; pulled = le_refl 0; pushed = le_refl 0 };
 }
 
 no_lines : (before after : List Step) (it : Step) → [] ≡ before ++ it ∷ after → ⊥

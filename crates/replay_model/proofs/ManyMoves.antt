@@ -11,6 +11,7 @@ use Rattle.replay_model.specs.Moves.{Move, Put, Take, Connect, ConnectIfMade, Pu
 use Rattle.replay_model.specs.Runs.{round, Rounds, Settles, settles, moves_of, MOST, Does, DoesBy}
 use Rattle.replay_model.specs.declared.ends.Fault.{Fault}
 use Rattle.replay_model.proofs.OneMove.{put_in, came}
+use Rattle.replay_model.proofs.Options.{not_both}
 use Rattle.replay_model.proofs.Standing.{Stands, After, Grew, Came, grew_refl, grew_trans, came_at}
 
 -- a move that puts nothing
@@ -67,11 +68,8 @@ puts_nothing : (old new : Pair) (stop : Option Fault) → Came old new stop [] [
 puts_nothing old new None it = it
 puts_nothing old new (Some fault) it = it
 
-some_none : (fault : Fault) → Some fault ≡ None → ⊥
-some_none fault e = cc
-
 puts_one : (side : Side) (bytes : List ℕ) (old new : Pair) (stop : Option Fault) → Stands old → MovesAll (Put side bytes ∷ []) old new stop → Came old new stop (put_where stop (if_peer Near side bytes)) (put_where stop (if_peer Far side bytes))
-puts_one side bytes old new stop it (inl met) = absurd (some_none met.0 met.1.1)
+puts_one side bytes old new stop it (inl met) = absurd (not_both (Some met.0) met.0 refl met.1.1)
 puts_one side bytes old new stop it (inr went) =
     came_at old new went.0 stop None (put_where stop (if_peer Near side bytes)) (put_where stop (if_peer Far side bytes)) went.2.0 went.2.1
     (subst (λ (s : Option Fault). Came old went.0 None (put_where s (if_peer Near side bytes)) (put_where s (if_peer Far side bytes))) (sym went.2.1)

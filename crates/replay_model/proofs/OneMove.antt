@@ -1,6 +1,6 @@
 -- What each move makes of where a replay stands, by the words of the Wayland protocol's two streams. A move that is made in one
 -- half leaves the other half alone, so each is a lemma on a half, put into the pair at its place.
-use Rattle.std.proofs.Common.{◌≡◌, ℕ, ◌+◌, ◌≤◌, ◌⊎◌, Bool, true, false, cond, ◌||◌, List, [], ◌∷◌, ◌++◌, length, min, Option, Some, None, option_map, refl, sym, ap, ◌∙◌, subst₂, append_assoc, append-nil, arith}
+use Rattle.std.proofs.Common.{◌≡◌, ℕ, ◌+◌, ◌≤◌, ◌⊎◌, Bool, true, false, cond, ◌||◌, List, [], ◌∷◌, ◌++◌, length, min, Option, Some, None, option_map, refl, sym, ap, ◌∙◌, subst₂, append_assoc, append-nil, arith, le_refl, le_of_eq}
 use Rattle.wl_tables.specs.declared.way.Way.{Way}
 use Rattle.wp_outside.specs.declared.kinds.Side.{Side}
 use Rattle.wp_outside.specs.declared.kinds.Side.TheVariants.{Near, Far}
@@ -19,12 +19,12 @@ use Rattle.replay_model.proofs.Pulling.{Flows, Brings, FrameIs, AfterPull, PullC
 use Rattle.replay_model.proofs.Sides.{made_grows, made_stays, given_stays}
 use Rattle.replay_model.proofs.Ways.{tagged}
 use Rattle.replay_model.proofs.Wires.{Held, Took, NextIs, SizeIs, AfterTake, TakeComes, held, takes, took_put, took_heard}
-use Rattle.replay_model.proofs.Standing.{Stands, PeerFell, FrameFell, After, HalfGrew, Grew, Came, at_least, no_less, half_grew_refl, grew_refl, came_at, quiet}
+use Rattle.replay_model.proofs.Standing.{Stands, PeerFell, FrameFell, After, HalfGrew, Grew, Came, half_grew_refl, grew_refl, came_at, quiet}
 
 -- ---- bytes are put
 
 half_put : (bytes : List ℕ) (half : Half) → HalfGrew half (with_put bytes half)
-half_put bytes half = record { put = starts_append half.put bytes; taken = at_least half.taken; pushed = at_least half.pushed; pulled = at_least half.pulled; order = starts_refl half.order }
+half_put bytes half = record { put = starts_append half.put bytes; taken = le_refl half.taken; pushed = le_refl half.pushed; pulled = le_refl half.pulled; order = starts_refl half.order }
 
 came_put : (side : Side) (bytes : List ℕ) (old new : Pair) (stop : Option Fault) → Stands old → Moves (Put side bytes) old new stop → Came old new stop (if_peer Near side bytes) (if_peer Far side bytes)
 came_put Near bytes old new stop it move = came_at old new (record old { near = with_put bytes old.near }) stop None bytes [] move.0 move.1 (record {
@@ -56,8 +56,8 @@ half_took : (side : Side) (old new : Half) (refused : Option Refusal) → AfterT
 half_took side old new refused it = record {
   put = starts_same old.put new.put (sym it.put);
   taken = it.taken;
-  pushed = no_less new.pushed old.pushed it.pushed;
-  pulled = no_less new.pulled old.pulled it.pulled;
+  pushed = le_of_eq (sym it.pushed);
+  pulled = le_of_eq (sym it.pulled);
   order = record { rest = tagged _ it.more; is = sym it.order };
 }
 
@@ -111,9 +111,9 @@ pushed_more old whole most within = (omega arith, omega arith)
 half_pushed : (side : Side) (most : ℕ) (half : Half) → half.pushed ≤ length (frame_bytes side half) → HalfGrew half (with_pushed side most half)
 half_pushed side most half within = record {
   put = starts_refl half.put;
-  taken = at_least half.taken;
+  taken = le_refl half.taken;
   pushed = (pushed_more half.pushed (length (frame_bytes side half)) most within).0;
-  pulled = at_least half.pulled;
+  pulled = le_refl half.pulled;
   order = starts_refl half.order;
 }
 
@@ -158,8 +158,8 @@ came_push Down most old new stop it move = by_linked old.connected move.0
 half_pulled : (reader : Side) (from old new : Half) (refused : Option Refusal) → AfterPull reader from old new refused → HalfGrew old new
 half_pulled reader from old new refused it = record {
   put = starts_same old.put new.put (sym it.put);
-  taken = no_less new.taken old.taken it.taken;
-  pushed = no_less new.pushed old.pushed it.pushed;
+  taken = le_of_eq (sym it.taken);
+  pushed = le_of_eq (sym it.pushed);
   pulled = it.pulled;
   order = record { rest = tagged _ it.more; is = sym it.order };
 }

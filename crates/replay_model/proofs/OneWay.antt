@@ -11,14 +11,9 @@ use Rattle.replay_model.specs.declared.ends.End.TheVariants as ends
 use Rattle.replay_model.specs.declared.ends.Fault.{Fault}
 use Rattle.replay_model.proofs.ManyMoves.{came_round, came_line}
 use Rattle.replay_model.proofs.OneMove.{came}
+use Rattle.replay_model.proofs.Options.{not_both}
 use Rattle.replay_model.proofs.SameMoves.{Same, same_both, same_move}
 use Rattle.replay_model.proofs.Standing.{Stands}
-
-some_not_none : (fault : Fault) → Some fault ≡ None → ⊥
-some_not_none fault e = cc
-
-none_not_some : (fault : Fault) → None ≡ Some fault → ⊥
-none_not_some fault e = cc
 
 one_fault : (a b : Fault) → Some a ≡ Some b → a ≡ b
 one_fault a b e = cc
@@ -31,8 +26,8 @@ same_moves [] old a b stop met it p q = same_both stop met a b (p.1 ∙ sym q.1)
 same_moves (move ∷ moves) old a b stop met it (inl p) (inl q) =
     let both : Same (Some p.0) (Some q.0) a b = same_move move old a b (Some p.0) (Some q.0) it p.1 q.1 in
     same_at a b stop met (Some p.0) (Some q.0) p.2 q.2 both.told both
-same_moves (move ∷ moves) old a b stop met it (inl p) (inr q) = absurd (some_not_none p.0 (same_move move old a q.0 (Some p.0) None it p.1 q.1).told)
-same_moves (move ∷ moves) old a b stop met it (inr p) (inl q) = absurd (none_not_some q.0 (same_move move old p.0 b None (Some q.0) it p.1 q.1).told)
+same_moves (move ∷ moves) old a b stop met it (inl p) (inr q) = absurd (not_both (Some p.0) p.0 refl (same_move move old a q.0 (Some p.0) None it p.1 q.1).told)
+same_moves (move ∷ moves) old a b stop met it (inr p) (inl q) = absurd (not_both (Some q.0) q.0 refl (sym (same_move move old p.0 b None (Some q.0) it p.1 q.1).told))
 same_moves (move ∷ moves) old a b stop met it (inr p) (inr q) =
     let between : p.0 ≡ q.0 = (same_move move old p.0 q.0 None None it p.1 q.1).same refl in
     same_moves moves p.0 a b stop met (came move old p.0 None it p.1).after p.2 (subst (λ (pair : Pair). MovesAll moves pair b met) (sym between) q.2)
@@ -70,8 +65,8 @@ same_played : (stop : Bool) (it : Step) (Others Later : Pair → Type 0) (old a 
 same_played true it Others Later old a b end last stands next p q = one_end a b None None end last (λ s. ends.Stopped) (same_both None None a b refl (p.0 ∙ sym q.0)) p.1 q.1
 same_played false it Others Later old a b end last stands next (inl p) (inl q) =
     one_end a b (Some p.0) (Some q.0) end last end_by (same_line it.what old a b (Some p.0) (Some q.0) stands p.1 q.1) p.2 q.2
-same_played false it Others Later old a b end last stands next (inl p) (inr q) = absurd (some_not_none p.0 (same_line it.what old a q.0 (Some p.0) None stands p.1 q.1).told)
-same_played false it Others Later old a b end last stands next (inr p) (inl q) = absurd (none_not_some q.0 (same_line it.what old p.0 b None (Some q.0) stands p.1 q.1).told)
+same_played false it Others Later old a b end last stands next (inl p) (inr q) = absurd (not_both (Some p.0) p.0 refl (same_line it.what old a q.0 (Some p.0) None stands p.1 q.1).told)
+same_played false it Others Later old a b end last stands next (inr p) (inl q) = absurd (not_both (Some q.0) q.0 refl (sym (same_line it.what old p.0 b None (Some q.0) stands p.1 q.1).told))
 same_played false it Others Later old a b end last stands next (inr p) (inr q) =
     next p.0 q.0 ((same_line it.what old p.0 q.0 None None stands p.1 q.1).same refl) (came_line it.what old p.0 None stands p.1).after p.2 q.2
 

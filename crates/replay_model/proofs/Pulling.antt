@@ -1,7 +1,8 @@
 -- What a proxy reads of the other's frames. In a direction that met no fault the reader has given its peer just the messages of
 -- the Wayland protocol whose frames lie in the bytes that it read, and it has read no more than was written. What it reads next
 -- goes on behind those, up to a message that it refuses; what its writer makes meanwhile comes behind the frames that were made.
-use Rattle.std.proofs.Common.{◌≡◌, ℕ, ◌+◌, ◌≤◌, List, [], ◌∷◌, ◌++◌, length, drop, min, Option, Some, None, refl, sym, ap, ◌∙◌, subst, subst₂, append_assoc, append-nil, arith, length-append}
+use Rattle.std.proofs.Common.{◌≡◌, ℕ, ◌+◌, ◌≤◌, List, [], ◌∷◌, ◌++◌, length, drop, min, Option, Some, None, refl, sym, ap, ◌∙◌, subst, subst₂, append_assoc, append-nil, arith, length-append, le_trans}
+use Rattle.std.proofs.Math.Nat.{min-le_left}
 use Rattle.wl_tables.specs.declared.way.Way.{Way}
 use Rattle.wp_outside.specs.declared.kinds.Side.{Side}
 use Rattle.replay_model.specs.Halves.{Half, Pair, other, half_of, heard_way, taken_by, given_by, made_by}
@@ -48,12 +49,9 @@ frames_more made more n it le = enough (frames_of made) (frames_of it.rest) (fra
 whole_more : (made more : List (List ℕ)) (n : ℕ) → Starts made more → n ≤ length (frames_of made) → whole_in more n ≡ whole_in made n
 whole_more made more n it le = ap (λ (l : List (List ℕ)). whole_in l n) (sym it.is) ∙ whole_behind made it.rest n le
 
-both_most : (a b c : ℕ) → a ≤ b → b ≤ c → a ≤ c
-both_most a b c p q = omega arith
-
 pub flow_out : (writer reader : Side) (old new to : Half) → Flows writer reader old to → Starts (made_by writer old) (made_by writer new) → new.pushed ≡ old.pushed → Flows writer reader new to
 flow_out writer reader old new to it grows same = record {
-  given = it.given ∙ sym (whole_more (made_by writer old) (made_by writer new) to.pulled grows (both_most to.pulled old.pushed (length (frames_of (made_by writer old))) it.pulled it.pushed));
+  given = it.given ∙ sym (whole_more (made_by writer old) (made_by writer new) to.pulled grows (le_trans it.pulled it.pushed));
   pulled = subst (λ (n : ℕ). to.pulled ≤ n) (sym same) it.pulled;
   pushed = subst (λ (n : ℕ). n ≤ length (frames_of (made_by writer new))) (sym same) (frames_more (made_by writer old) (made_by writer new) old.pushed grows it.pushed);
 }
@@ -62,7 +60,7 @@ flow_out writer reader old new to it grows same = record {
 pub flow_pushed : (writer reader : Side) (old new to : Half) → Flows writer reader old to → made_by writer new ≡ made_by writer old → old.pushed ≤ new.pushed → new.pushed ≤ length (frames_of (made_by writer old)) → Flows writer reader new to
 flow_pushed writer reader old new to it same more within = record {
   given = it.given ∙ ap (λ (l : List (List ℕ)). whole_in l to.pulled) (sym same);
-  pulled = both_most to.pulled old.pushed new.pushed it.pulled more;
+  pulled = le_trans it.pulled more;
   pushed = subst (λ (l : List (List ℕ)). new.pushed ≤ length (frames_of l)) (sym same) within;
 }
 
@@ -166,13 +164,10 @@ pull_upto reader from old upto passes it ahead within =
       comes = came.0;
     }
 
-least : (a b c : ℕ) → a ≤ min b c → a ≤ b
-least a b c le = omega arith
-
 -- the move, in the words of its two halves
 pub pulls : (reader : Side) (most upto : ℕ) (from old new : Half) (refused : Option Refusal) → Passes old.order → Flows (other reader) reader from old
     → old.pulled ≤ upto → upto ≤ min from.pushed (old.pulled + most)
     → new ≡ pulled_half reader from old upto → refused ≡ (heard_by reader from old upto).refused → AfterPull reader from old new refused
 pulls reader most upto from old new refused passes it ahead within came judged =
     subst₂ (λ (half : Half) (told : Option Refusal). AfterPull reader from old half told) (sym came) (sym judged)
-    (pull_upto reader from old upto passes it ahead (least upto from.pushed (old.pulled + most) within))
+    (pull_upto reader from old upto passes it ahead (le_trans within (min-le_left from.pushed (old.pulled + most))))

@@ -1,7 +1,7 @@
 -- Two moves of one kind from one place end alike. A proxy that meets a refusal may have taken or read more or fewer bytes with
 -- it, but behind a message of the Wayland protocol that is refused nothing matters: the longer front of the bytes is refused at
 -- the same message as the shorter one, with the same messages passed. Where nothing is refused both come as far as they may.
-use Rattle.std.proofs.Common.{◌≡◌, ℕ, ◌+◌, ◌≤◌, ◌⊎◌, Bool, List, [], ◌∷◌, ◌++◌, length, take, drop, min, Option, Some, None, option_map, inl, inr, refl, sym, ap, ◌∙◌, subst, subst₂, append_assoc, arith}
+use Rattle.std.proofs.Common.{◌≡◌, ℕ, ◌+◌, ◌≤◌, ◌⊎◌, Bool, List, [], ◌∷◌, ◌++◌, length, take, drop, min, Option, Some, None, option_map, inl, inr, refl, sym, ap, ◌∙◌, subst, subst₂, append_assoc, arith, le_trans}
 use Rattle.std.proofs.lemmas.Bool.{cases_lt}
 use Rattle.std.proofs.lemmas.List.{append_cancel_left, take-take}
 use Rattle.wl_wire.specs.declared.faults.WireFault.{WireFault}
@@ -19,6 +19,7 @@ use Rattle.replay_model.specs.declared.ends.Fault.{Fault}
 use Rattle.replay_model.specs.declared.ends.Fault.TheVariants.{Peer, Frame}
 use Rattle.replay_model.specs.declared.ends.Refusal.{Refusal}
 use Rattle.replay_model.proofs.FrameRows.{whole_grows}
+use Rattle.replay_model.proofs.Options.{not_both, made_of_none}
 use Rattle.replay_model.proofs.Passages.{refused_stays}
 use Rattle.replay_model.proofs.Pulling.{Flows, next_in_frames, heard_by, pulled_half, in_frames}
 use Rattle.replay_model.proofs.Standing.{Stands}
@@ -38,9 +39,6 @@ Stays refused order least = (a b : ℕ) (cause : Refusal) → least ≤ a → a 
 squeezed : (a b most : ℕ) → a ≡ most → a ≤ b → b ≤ most → a ≡ b
 squeezed a b most e p q = omega arith
 
-some_none : (told : Option Refusal) (cause : Refusal) → told ≡ Some cause → told ≡ None → ⊥
-some_none told cause a b = cc
-
 agrees_below : (refused : ℕ → Option Refusal) (order : ℕ → List (Way × List ℕ)) (least most a b : ℕ) (told : Option Refusal) → Stays refused order least → refused a ≡ told
     → least ≤ a → a ≤ b → b ≤ most → (refused a ≡ None → a ≡ most) → Agrees refused order a b
 agrees_below refused order least most a b None stays is ahead le within all =
@@ -48,7 +46,7 @@ agrees_below refused order least most a b None stays is ahead le within all =
     record { told = ap refused same; same = ap order same; none = λ e. same }
 agrees_below refused order least most a b (Some cause) stays is ahead le within all =
     let later = stays a b cause ahead le is in
-    record { told = is ∙ sym later.0; same = sym later.1; none = λ e. absurd (some_none (refused a) cause is e) }
+    record { told = is ∙ sym later.0; same = sym later.1; none = λ e. absurd (not_both (refused a) cause is e) }
 
 agrees_back : (refused : ℕ → Option Refusal) (order : ℕ → List (Way × List ℕ)) (a b : ℕ) → Agrees refused order b a → Agrees refused order a b
 agrees_back refused order a b it = record { told = sym it.told; same = sym it.same; none = λ e. sym (it.none (it.told ∙ e)) }
@@ -82,11 +80,8 @@ more_on_wire side half a b it ahead le =
       rest = later.rest;
       is = append_cancel_left (taken_by side half) (next_on_wire side half a ++ later.rest) (next_on_wire side half b)
           (sym (append_assoc (taken_by side half) (next_on_wire side half a) later.rest)
-          ∙ ap (λ (l : List (List ℕ)). l ++ later.rest) (on_wire side half a it ahead) ∙ later.is ∙ sym (on_wire side half b it (on_to half.taken a b ahead le)));
+          ∙ ap (λ (l : List (List ℕ)). l ++ later.rest) (on_wire side half a it ahead) ∙ later.is ∙ sym (on_wire side half b it (le_trans ahead le)));
     }
-  where
-    on_to : (x y z : ℕ) → x ≤ y → y ≤ z → x ≤ z
-    on_to x y z p q = omega arith
 
 stuck_at : (half : Half) (a b : ℕ) (fault : WireFault) → a ≤ b → cut_fault (take a half.put) ≡ Some fault → Stuck (take a half.put) (take b half.put) fault
 stuck_at half a b fault le met =
@@ -104,7 +99,7 @@ take_stays_by side half a b cause None (Some fault) it ahead le is met named =
     let stuck : Stuck (take a half.put) (take b half.put) fault = stuck_at half a b fault le met in
     let same : taking side half b ≡ taking side half a = ap (λ (l : List (List ℕ)). pass_all (own_way side) half.order (drop (length (taken_by side half)) l)) stuck.same in
     (ap (λ (p : Passage). or_size p.refused (cut_fault (take b half.put))) same ∙ ap (λ (t : Option Refusal). or_size t (cut_fault (take b half.put))) is ∙ ap (or_size None) stuck.met ∙ named, ap (λ (p : Passage). p.order) same)
-take_stays_by side half a b cause None None it ahead le is met named = absurd (some_none None cause named refl)
+take_stays_by side half a b cause None None it ahead le is met named = absurd (not_both None cause named refl)
 
 take_stays : (side : Side) (half : Half) → Took side half → Stays (take_refused side half) (take_order side half) half.taken
 take_stays side half it a b cause ahead le is = take_stays_by side half a b cause (taking side half a).refused (cut_fault (take a half.put)) it ahead le refl refl is
@@ -135,11 +130,8 @@ more_in_frames reader from to a b it ahead le =
       rest = later.rest;
       is = append_cancel_left (given_by reader to) (next_in_frames reader from to a ++ later.rest) (next_in_frames reader from to b)
           (sym (append_assoc (given_by reader to) (next_in_frames reader from to a) later.rest)
-          ∙ ap (λ (l : List (List ℕ)). l ++ later.rest) (in_frames reader from to a it ahead) ∙ later.is ∙ sym (in_frames reader from to b it (on_to to.pulled a b ahead le)));
+          ∙ ap (λ (l : List (List ℕ)). l ++ later.rest) (in_frames reader from to a it ahead) ∙ later.is ∙ sym (in_frames reader from to b it (le_trans ahead le)));
     }
-  where
-    on_to : (x y z : ℕ) → x ≤ y → y ≤ z → x ≤ z
-    on_to x y z p q = omega arith
 
 abbrev pub pull_refused : Side → Half → Half → ℕ → Option Refusal
 pull_refused reader from to upto = (heard_by reader from to upto).refused
@@ -183,10 +175,6 @@ same_both stop met a b told is = record {
 same_there : (stop met : Option Fault) (a b there : Pair) → stop ≡ None → met ≡ None → a ≡ there → b ≡ there → Same stop met a b
 same_there stop met a b there p q e f = same_both stop met a b (p ∙ sym q) (e ∙ sym f)
 
-not_refused : (refused : Option Refusal) (f : Refusal → Fault) → option_map f refused ≡ None → refused ≡ None
-not_refused None f e = refl
-not_refused (Some cause) f e = absurd (cc)
-
 same_near : (old a b : Pair) (half there : Half) (refused told : Option Refusal) (stop met : Option Fault) (f : Refusal → Fault) → SameHalves half there refused told
     → a ≡ record old { near = half } → b ≡ record old { near = there } → stop ≡ option_map f refused → met ≡ option_map f told → Same stop met a b
 same_near old a b half there refused told stop met f it p q s t = record {
@@ -194,7 +182,7 @@ same_near old a b half there refused told stop met f it p q s t = record {
   near = ap (λ (x : Pair). x.near.order) p ∙ it.order ∙ sym (ap (λ (x : Pair). x.near.order) q);
   far = ap (λ (x : Pair). x.far.order) p ∙ sym (ap (λ (x : Pair). x.far.order) q);
   linked = ap (λ (x : Pair). x.connected) p ∙ sym (ap (λ (x : Pair). x.connected) q);
-  same = λ none. p ∙ ap (λ (h : Half). record old { near = h }) (it.same (not_refused refused f (sym s ∙ none))) ∙ sym q;
+  same = λ none. p ∙ ap (λ (h : Half). record old { near = h }) (it.same (made_of_none refused f (sym s ∙ none))) ∙ sym q;
 }
 
 same_far : (old a b : Pair) (half there : Half) (refused told : Option Refusal) (stop met : Option Fault) (f : Refusal → Fault) → SameHalves half there refused told
@@ -204,7 +192,7 @@ same_far old a b half there refused told stop met f it p q s t = record {
   near = ap (λ (x : Pair). x.near.order) p ∙ sym (ap (λ (x : Pair). x.near.order) q);
   far = ap (λ (x : Pair). x.far.order) p ∙ it.order ∙ sym (ap (λ (x : Pair). x.far.order) q);
   linked = ap (λ (x : Pair). x.connected) p ∙ sym (ap (λ (x : Pair). x.connected) q);
-  same = λ none. p ∙ ap (λ (h : Half). record old { far = h }) (it.same (not_refused refused f (sym s ∙ none))) ∙ sym q;
+  same = λ none. p ∙ ap (λ (h : Half). record old { far = h }) (it.same (made_of_none refused f (sym s ∙ none))) ∙ sym q;
 }
 
 agreed_halves : (reader : Side) (from old : Half) (a b : ℕ) (refused told : Option Refusal) → refused ≡ pull_refused reader from old a → told ≡ pull_refused reader from old b

@@ -4,7 +4,7 @@
 -- No move takes anything back (`Grew`). So where a whole round ends where it began, each of its moves left all as it was, and
 -- what a move says of its count says it of the first pair: the count is the least of all that there is and of itself and the
 -- round's size, which is at least 1, so it is all that there is. Where no connection was made there is no frame to send.
-use Rattle.std.proofs.Common.{◌≡◌, ℕ, zero, suc, ◌+◌, ◌≤◌, Bool, true, false, cond, ◌||◌, List, [], ◌∷◌, ◌++◌, length, min, Option, Some, None, option_map, inl, inr, refl, sym, ap, ◌∙◌, subst, arith}
+use Rattle.std.proofs.Common.{◌≡◌, ℕ, zero, suc, ◌+◌, ◌≤◌, Bool, true, false, cond, ◌||◌, List, [], ◌∷◌, ◌++◌, length, min, Option, Some, None, option_map, inl, inr, refl, sym, ap, ◌∙◌, subst, arith, le_antisymm}
 use Rattle.wl_tables.specs.declared.way.Way.{Way}
 use Rattle.wl_tables.specs.declared.way.Way.TheVariants.{Request}
 use Rattle.wl_objects.specs.Registry.{first_state, visible}
@@ -16,9 +16,11 @@ use Rattle.replay_model.specs.Moves.{Move, Take, ConnectIfMade, Push, Pull, Move
 use Rattle.replay_model.specs.Rows.{frames_of}
 use Rattle.replay_model.specs.Runs.{round, Rounds}
 use Rattle.replay_model.specs.declared.ends.Fault.{Fault}
+use Rattle.replay_model.specs.declared.ends.Fault.TheVariants.{Peer, Frame}
 use Rattle.replay_model.specs.declared.ends.Refusal.{Refusal}
 use Rattle.replay_model.proofs.Fronts.{starts_both}
 use Rattle.replay_model.proofs.ManyMoves.{IsQuiet, came_quiet, came_round}
+use Rattle.replay_model.proofs.Options.{not_both, made_of_none}
 use Rattle.replay_model.proofs.Standing.{Stands, HalfGrew, Grew, Came, grew_refl, grew_trans}
 
 -- nothing waits
@@ -44,15 +46,12 @@ pub record SamePair (a b : Pair) : Type 0 where
   pub far : SameHalf a.far b.far
   pub linked : a.connected ≡ b.connected
 
-both_ways : (a b : ℕ) → a ≤ b → b ≤ a → a ≡ b
-both_ways a b p q = omega arith
-
 same_half : (a b : Half) → HalfGrew a b → HalfGrew b a → SameHalf a b
 same_half a b p q = record {
   put = starts_both p.put q.put;
-  taken = both_ways a.taken b.taken p.taken q.taken;
-  pushed = both_ways a.pushed b.pushed p.pushed q.pushed;
-  pulled = both_ways a.pulled b.pulled p.pulled q.pulled;
+  taken = le_antisymm p.taken q.taken;
+  pushed = le_antisymm p.pushed q.pushed;
+  pulled = le_antisymm p.pulled q.pulled;
   order = starts_both p.order q.order;
 }
 
@@ -66,9 +65,6 @@ same_pair a b p q = record { near = same_half a.near b.near p.near q.near; far =
 
 -- ---- what each move says of its count
 
-some_none : (fault : Fault) → None ≡ Some fault → ⊥
-some_none fault e = cc
-
 -- a move and those behind it, where they meet no fault
 pub record Parts (move : Move) (moves : List Move) (old new : Pair) : Type 0 where
   pub between : Pair
@@ -76,21 +72,17 @@ pub record Parts (move : Move) (moves : List Move) (old new : Pair) : Type 0 whe
   pub later : MovesAll moves between new None
 
 pub parts : (move : Move) (moves : List Move) (old new : Pair) → MovesAll (move ∷ moves) old new None → Parts move moves old new
-parts move moves old new (inl met) = absurd (some_none met.0 met.2)
+parts move moves old new (inl met) = absurd (not_both (Some met.0) met.0 refl (sym met.2))
 parts move moves old new (inr went) = record { between = went.0; one = went.1; later = went.2 }
-
-not_refused : (refused : Option Refusal) (f : Refusal → Fault) → None ≡ option_map f refused → refused ≡ None
-not_refused None f e = refl
-not_refused (Some cause) f e = absurd (some_none (f cause) e)
 
 half_taken : (side : Side) (most : ℕ) (old new : Half) (refused : Option Refusal) → Takes side most old new refused → refused ≡ None → new.taken ≡ min (length old.put) (old.taken + most)
 half_taken side most old new refused it none = ap (λ (h : Half). h.taken) it.came ∙ it.all none
 
 near_taken : (most : ℕ) (old new : Pair) → Moves (Take Near most) old new None → new.near.taken ≡ min (length old.near.put) (old.near.taken + most)
-near_taken most old new move = ap (λ (p : Pair). p.near.taken) move.1.2 ∙ half_taken Near most old.near move.0 move.1.0 move.1.1 (not_refused move.1.0 _ move.1.3)
+near_taken most old new move = ap (λ (p : Pair). p.near.taken) move.1.2 ∙ half_taken Near most old.near move.0 move.1.0 move.1.1 (made_of_none move.1.0 (Peer Near) (sym move.1.3))
 
 far_taken : (most : ℕ) (old new : Pair) → Moves (Take Far most) old new None → new.far.taken ≡ min (length old.far.put) (old.far.taken + most)
-far_taken most old new move = ap (λ (p : Pair). p.far.taken) move.1.2 ∙ half_taken Far most old.far move.0 move.1.0 move.1.1 (not_refused move.1.0 _ move.1.3)
+far_taken most old new move = ap (λ (p : Pair). p.far.taken) move.1.2 ∙ half_taken Far most old.far move.0 move.1.0 move.1.1 (made_of_none move.1.0 (Peer Far) (sym move.1.3))
 
 cond_near : (linked : Bool) (old : Pair) (half : Half) → (cond linked (record old { near = half }) old).near.pushed ≡ cond linked half.pushed old.near.pushed
 cond_near true old half = refl
@@ -107,10 +99,10 @@ far_pushed : (most : ℕ) (old new : Pair) → Moves (Push Down most) old new No
 far_pushed most old new move = ap (λ (p : Pair). p.far.pushed) move.0 ∙ cond_far old.connected old (with_pushed Far most old.far)
 
 far_pulled : (most : ℕ) (old new : Pair) → Moves (Pull Up most) old new None → new.far.pulled ≡ min old.near.pushed (old.far.pulled + most)
-far_pulled most old new move = ap (λ (p : Pair). p.far.pulled) move.1.came ∙ move.1.all (not_refused move.0 _ move.2)
+far_pulled most old new move = ap (λ (p : Pair). p.far.pulled) move.1.came ∙ move.1.all (made_of_none move.0 (Frame Far) (sym move.2))
 
 near_pulled : (most : ℕ) (old new : Pair) → Moves (Pull Down most) old new None → new.near.pulled ≡ min old.far.pushed (old.near.pulled + most)
-near_pulled most old new move = ap (λ (p : Pair). p.near.pulled) move.1.came ∙ move.1.all (not_refused move.0 _ move.2)
+near_pulled most old new move = ap (λ (p : Pair). p.near.pulled) move.1.came ∙ move.1.all (made_of_none move.0 (Frame Near) (sym move.2))
 
 -- ---- a count that stays is all that there is
 
@@ -126,11 +118,11 @@ or_false : (a b : Bool) → a ≡ (a || b) → a ≡ false → b ≡ false
 or_false true b e f = absurd (cc)
 or_false false b e f = sym e
 
+nothing_less : (n : ℕ) → 0 ≤ n
+nothing_less n = omega arith
+
 no_frames : (made : List (List ℕ)) (count : ℕ) → made ≡ [] → count ≤ length (frames_of made) → count ≡ length (frames_of made)
-no_frames made count none within = both_ways count (length (frames_of made)) within (subst (λ (l : List (List ℕ)). length (frames_of l) ≤ count) (sym none) (zero_least count))
-  where
-    zero_least : (n : ℕ) → 0 ≤ n
-    zero_least n = omega arith
+no_frames made count none within = le_antisymm within (subst (λ (l : List (List ℕ)). length (frames_of l) ≤ count) (sym none) (nothing_less count))
 
 -- with a connection all was pushed, and without one nothing was made
 all_pushed : (linked : Bool) (made : List (List ℕ)) (count most : ℕ) → 1 ≤ most → count ≤ length (frames_of made)

@@ -4,7 +4,7 @@
 -- the bytes that they took, and in both directions the reader has given just those whose frames it read. `After` is what a move
 -- leaves: `Stands` again, or, behind a fault, what is left of it and the message or the size that is refused. `Grew` says that
 -- nothing is taken back, and `Came` is all that is known of a move, or of some.
-use Rattle.std.proofs.Common.{◌≡◌, ℕ, ◌+◌, ◌≤◌, ◌⊎◌, Bool, true, false, cond, ◌||◌, List, [], ◌∷◌, ◌++◌, length, min, Option, Some, None, option_map, refl, sym, ap, ◌∙◌, subst₂, append_assoc, append-nil, arith}
+use Rattle.std.proofs.Common.{◌≡◌, ℕ, ◌+◌, ◌≤◌, ◌⊎◌, Bool, true, false, cond, ◌||◌, List, [], ◌∷◌, ◌++◌, length, min, Option, Some, None, option_map, refl, sym, ap, ◌∙◌, subst₂, append_assoc, append-nil, arith, le_refl, le_trans}
 use Rattle.wl_tables.specs.declared.way.Way.{Way}
 use Rattle.wp_outside.specs.declared.kinds.Side.{Side}
 use Rattle.wp_outside.specs.declared.kinds.Side.TheVariants.{Near, Far}
@@ -67,24 +67,15 @@ pub record Grew (old new : Pair) : Type 0 where
   pub far : HalfGrew old.far new.far
   pub linked : old.connected ≡ true → new.connected ≡ true
 
-most_of : (a b c : ℕ) → a ≤ b → b ≤ c → a ≤ c
-most_of a b c p q = omega arith
-
-pub at_least : (n : ℕ) → n ≤ n
-at_least n = omega arith
-
-pub no_less : (a b : ℕ) → a ≡ b → b ≤ a
-no_less a b e = omega arith
-
 pub half_grew_refl : (half : Half) → HalfGrew half half
-half_grew_refl half = record { put = starts_refl half.put; taken = at_least half.taken; pushed = at_least half.pushed; pulled = at_least half.pulled; order = starts_refl half.order }
+half_grew_refl half = record { put = starts_refl half.put; taken = le_refl half.taken; pushed = le_refl half.pushed; pulled = le_refl half.pulled; order = starts_refl half.order }
 
 half_grew_trans : (a b c : Half) → HalfGrew a b → HalfGrew b c → HalfGrew a c
 half_grew_trans a b c p q = record {
   put = starts_trans p.put q.put;
-  taken = most_of a.taken b.taken c.taken p.taken q.taken;
-  pushed = most_of a.pushed b.pushed c.pushed p.pushed q.pushed;
-  pulled = most_of a.pulled b.pulled c.pulled p.pulled q.pulled;
+  taken = le_trans p.taken q.taken;
+  pushed = le_trans p.pushed q.pushed;
+  pulled = le_trans p.pulled q.pulled;
   order = starts_trans p.order q.order;
 }
 

@@ -1,7 +1,8 @@
 -- What a proxy takes from its peer's wire. The bytes of the wire are cut into messages of the Wayland protocol from the front
 -- on, so what is cut of the first bytes is a front of what is cut of all of them. A proxy that met no fault has passed all that
 -- is cut of the bytes that it took; what it takes next goes on behind that, up to a message that is refused or a size at fault.
-use Rattle.std.proofs.Common.{◌≡◌, ℕ, ◌+◌, ◌≤◌, ◌⊎◌, inl, inr, List, [], ◌∷◌, ◌++◌, length, take, drop, min, Option, Some, None, refl, sym, ap, ◌∙◌, subst, subst₂, append_assoc, append-nil, arith, take-append-drop, length-append}
+use Rattle.std.proofs.Common.{◌≡◌, ℕ, ◌+◌, ◌≤◌, ◌⊎◌, inl, inr, List, [], ◌∷◌, ◌++◌, length, take, drop, min, Option, Some, None, refl, sym, ap, ◌∙◌, subst, subst₂, append_assoc, append-nil, arith, take-append-drop, length-append, le_trans}
+use Rattle.std.proofs.Math.Nat.{min-le_left}
 use Rattle.std.proofs.lemmas.List.{take-take, take-append-le}
 use Rattle.std.proofs.lemmas.List.Elements.{recursion_from_All}
 use Rattle.wl_wire.specs.declared.faults.WireFault.{WireFault}
@@ -185,13 +186,10 @@ take_upto side old upto it ahead within =
       comes = take_comes side old (upto_half side old upto) facts.more (taking side old upto).refused (cut_fault (take upto old.put)) wire refl within facts.order facts.passes facts.comes refl;
     }
 
-least : (a b c : ℕ) → a ≤ min b c → a ≤ b
-least a b c le = omega arith
-
 pub takes : (side : Side) (most : ℕ) (old new : Half) (refused : Option Refusal) → Took side old → Takes side most old new refused → AfterTake side old new refused
 takes side most old new refused it move =
     subst₂ (λ (half : Half) (told : Option Refusal). AfterTake side old half told) (sym move.came) (sym move.judged)
-    (take_upto side old move.upto it move.ahead (least move.upto (length old.put) (old.taken + most) move.within))
+    (take_upto side old move.upto it move.ahead (le_trans move.within (min-le_left (length old.put) (old.taken + most))))
 
 -- ---- bytes are put, and messages of the other proxy are passed
 
