@@ -4,7 +4,7 @@
 -- moves all that waits either was done, and parted the messages (`PartedAll`), or was not, and then what was put so far is a
 -- front of what is put before it. A refusal names a message; with that message behind it the order fits still, and so is
 -- allowed, but it does not pass.
-use Rattle.std.proofs.Common.{◌≡◌, ℕ, ◌+◌, ◌≤◌, true, List, [], ◌∷◌, ◌++◌, length, Option, Some, None, inl, inr, ◌⊎◌, refl, sym, ap, ◌∙◌, subst, subst₂, append_assoc, append-nil, arith}
+use Rattle.std.proofs.Common.{◌≡◌, ℕ, List, [], ◌∷◌, ◌++◌, Some, None, inl, inr, ◌⊎◌, refl, sym, ap, ◌∙◌, subst, append_assoc}
 use Rattle.wl_tables.specs.declared.way.Way.{Way}
 use Rattle.wl_tables.specs.declared.way.Way.TheVariants.{Request, Event}
 use Rattle.wl_wire.specs.declared.faults.WireFault.{WireFault}
@@ -16,20 +16,18 @@ use Rattle.script_lang.specs.Puts.{before_stop, put_by_all, puts}
 use Rattle.script_lang.specs.declared.steps.Step.{Step}
 use Rattle.replay_model.specs.Halves.{Pair, half_of, of_way, taken_by, given_by, made_by}
 use Rattle.replay_model.specs.Headline.{Starts, Passes, FrameRefused}
-use Rattle.replay_model.specs.Orders.{ComeNoFurther, Parted, Allowed}
+use Rattle.replay_model.specs.Orders.{ComeNoFurther, Allowed}
 use Rattle.replay_model.specs.Passing.{objects_after, refusal}
 use Rattle.replay_model.specs.RunLaws.{AllPass}
-use Rattle.replay_model.specs.Runs.{settles}
 use Rattle.replay_model.specs.declared.ends.End.{End}
 use Rattle.replay_model.specs.declared.ends.End.TheVariants as ends
 use Rattle.replay_model.specs.declared.ends.Fault.{Fault}
 use Rattle.replay_model.specs.declared.ends.Fault.TheVariants.{Peer, Frame}
 use Rattle.replay_model.specs.declared.ends.Refusal.{Refusal}
-use Rattle.replay_model.proofs.Fronts.{starts_refl, starts_same, starts_trans, starts_append, starts_length, within_or_beyond}
-use Rattle.replay_model.proofs.Lines.{PartedAll, Outcome, Ended, HasPut, all_parted_grows, put_by_more}
+use Rattle.replay_model.proofs.Fronts.{starts_refl, starts_trans, starts_append, starts_length, within_or_beyond}
+use Rattle.replay_model.proofs.Lines.{PartedAll, Ended, HasPut, all_parted_grows, put_by_more}
 use Rattle.replay_model.proofs.Options.{not_both}
 use Rattle.replay_model.proofs.RunEnds.{Kept, kept, all_put}
-use Rattle.replay_model.proofs.Standing.{After, PeerFell, FrameFell}
 use Rattle.replay_model.proofs.Ways.{requests_added, events_added, requests_stay, events_stay, visible_more}
 use Rattle.replay_model.proofs.Wires.{NextIs, SizeIs, Stuck, cut_more, stuck_more}
 
@@ -140,16 +138,16 @@ near_refused : (steps done more : List Step) (near far : List (Way × List ℕ))
 near_refused steps done more near far way message cause all lines parted refused fits =
     not_passes near way message cause refused
     (all.passes (near ++ (way, message) ∷ []) far
-      (fits_allowed steps done more (near ++ (way, message) ∷ []) far lines fits
-        (all_parted_grows done near far (near ++ (way, message) ∷ []) far (starts_append near ((way, message) ∷ [])) (starts_refl far) parted))).0
+    (fits_allowed steps done more (near ++ (way, message) ∷ []) far lines fits
+    (all_parted_grows done near far (near ++ (way, message) ∷ []) far (starts_append near ((way, message) ∷ [])) (starts_refl far) parted))).0
 
 far_refused : (steps done more : List Step) (near far : List (Way × List ℕ)) (way : Way) (message : List ℕ) (cause : Refusal) → AllPass steps → before_stop steps ≡ done ++ more → PartedAll done near far
     → refusal far way message ≡ Some cause → Fits (put_by_all Near done) (put_by_all Far done) near (far ++ (way, message) ∷ []) → ⊥
 far_refused steps done more near far way message cause all lines parted refused fits =
     not_passes far way message cause refused
     (all.passes near (far ++ (way, message) ∷ [])
-      (fits_allowed steps done more near (far ++ (way, message) ∷ []) lines fits
-        (all_parted_grows done near far near (far ++ (way, message) ∷ []) (starts_refl near) (starts_append far ((way, message) ∷ [])) parted))).1
+    (fits_allowed steps done more near (far ++ (way, message) ∷ []) lines fits
+    (all_parted_grows done near far near (far ++ (way, message) ∷ []) (starts_refl near) (starts_append far ((way, message) ∷ [])) parted))).1
 
 -- a size that is at fault where it was put is at fault in the whole script
 size_met : (side : Side) (steps : List Step) (pair : Pair) (more : List ℕ) (fault : WireFault) → puts side steps ≡ (half_of side pair).put ++ more → cut_fault (half_of side pair).put ≡ Some fault → cut_fault (puts side steps) ≡ None → ⊥
@@ -162,7 +160,7 @@ near_peer : (steps done more : List Step) (pair : Pair) (cause : Refusal) → Al
 near_peer steps done more pair cause all lines put parted it (inl met) =
     near_refused steps done more pair.near.order pair.far.order Request met.message cause all lines parted met.refused
     (near_request (put_by_all Near done) (put_by_all Far done) met.message pair.near.order pair.far.order (kept_fits done pair put it)
-      (next_starts (taken_by Near pair.near) (cut (put_by_all Near done)) met.rest met.message (ap cut (sym put.near) ∙ met.next)))
+    (next_starts (taken_by Near pair.near) (cut (put_by_all Near done)) met.rest met.message (ap cut (sym put.near) ∙ met.next)))
 near_peer steps done more pair cause all lines put parted it (inr met) =
     size_met Near steps pair (put_by_all Near more) met.fault (all_put Near steps pair done more lines put) met.met all.near_fine
 
@@ -171,7 +169,7 @@ far_peer : (steps done more : List Step) (pair : Pair) (cause : Refusal) → All
 far_peer steps done more pair cause all lines put parted it (inl met) =
     far_refused steps done more pair.near.order pair.far.order Event met.message cause all lines parted met.refused
     (far_event (put_by_all Near done) (put_by_all Far done) met.message pair.near.order pair.far.order it.far.passes (kept_fits done pair put it)
-      (next_starts (taken_by Far pair.far) (cut (put_by_all Far done)) met.rest met.message (ap cut (sym put.far) ∙ met.next)))
+    (next_starts (taken_by Far pair.far) (cut (put_by_all Far done)) met.rest met.message (ap cut (sym put.far) ∙ met.next)))
 far_peer steps done more pair cause all lines put parted it (inr met) =
     size_met Far steps pair (put_by_all Far more) met.fault (all_put Far steps pair done more lines put) met.met all.far_fine
 
@@ -180,14 +178,14 @@ near_frame : (steps done more : List Step) (pair : Pair) (cause : Refusal) → A
 near_frame steps done more pair cause all lines put parted it met =
     near_refused steps done more pair.near.order pair.far.order Event met.message cause all lines parted met.refused
     (near_event (put_by_all Near done) (put_by_all Far done) met.message pair.near.order pair.far.order (kept_fits done pair put it)
-      (next_starts (given_by Near pair.near) (made_by Far pair.far) met.rest met.message met.next))
+    (next_starts (given_by Near pair.near) (made_by Far pair.far) met.rest met.message met.next))
 
 far_frame : (steps done more : List Step) (pair : Pair) (cause : Refusal) → AllPass steps → before_stop steps ≡ done ++ more → HasPut done pair → PartedAll done pair.near.order pair.far.order → Kept pair
     → FrameRefused Far pair cause → ⊥
 far_frame steps done more pair cause all lines put parted it met =
     far_refused steps done more pair.near.order pair.far.order Request met.message cause all lines parted met.refused
     (far_request (put_by_all Near done) (put_by_all Far done) met.message pair.near.order pair.far.order it.far.passes (kept_fits done pair put it)
-      (next_starts (given_by Far pair.far) (made_by Near pair.near) met.rest met.message met.next))
+    (next_starts (given_by Far pair.far) (made_by Near pair.near) met.rest met.message met.next))
 
 pub no_fault : (steps : List Step) (pair : Pair) (fault : Fault) → AllPass steps → Ended steps pair (ends.Fault fault) → ⊥
 no_fault steps pair (Peer Near cause) all it =

@@ -1,5 +1,5 @@
 -- Rows of frames with one message of the Wayland wire format each: which whole frames lie in the first bytes of a row, and what stands behind them there.
-use Rattle.std.proofs.Common.{◌≡◌, ◌≢◌, ℕ, ◌+◌, ◌-◌, ◌<◌, ◌≤◌, List, [], ◌∷◌, ◌++◌, length, take, drop, Option, Some, None, Ok, inl, inr, refl, sym, ap, ◌∙◌, append_assoc, append-nil, arith, length-append, length-drop, take-append-drop}
+use Rattle.std.proofs.Common.{◌≡◌, ◌≢◌, ℕ, ◌+◌, ◌-◌, ◌<◌, ◌≤◌, List, [], ◌∷◌, ◌++◌, length, take, drop, Some, None, Ok, inl, inr, refl, sym, ap, ◌∙◌, append_assoc, append-nil, arith, length-append, length-drop, take-append-drop}
 use Rattle.std.proofs.lemmas.Bool.{cases_lt, le-leb, lt-leb}
 use Rattle.std.proofs.lemmas.Grind.{flat_map-append}
 use Rattle.std.proofs.lemmas.List.{take-append-le}
@@ -7,7 +7,6 @@ use Rattle.std.proofs.Math.Seq.{take-append-add}
 use Rattle.wl_wire.specs.Wire.{IsMessage, cut_rest}
 use Rattle.wl_wire.proofs.Cutting.{stops-nil}
 use Rattle.wl_wire.proofs.CuttingLaws.{cut-message, cut-nothing}
-use Rattle.transfer_frames.specs.declared.cause.FrameCause.{FrameCause}
 use Rattle.transfer_frames.specs.declared.frame.Frame.{Frame}
 use Rattle.transfer_frames.specs.declared.frame.Frame.TheVariants.{Protocol}
 use Rattle.transfer_frames.specs.Front.{front}
@@ -17,7 +16,7 @@ use Rattle.transfer_frames.proofs.FrameLaws.{length-spelling}
 use Rattle.transfer_frames.proofs.FrontLaws.{front-short, front-spelled, front-proper}
 use Rattle.replay_model.specs.Headline.{Starts}
 use Rattle.replay_model.specs.Rows.{frame_of, frames_of, whole_in}
-use Rattle.replay_model.proofs.Fronts.{starts_same, starts_behind, starts_refl}
+use Rattle.replay_model.proofs.Fronts.{starts_refl}
 use Rattle.replay_model.proofs.Ways.{AreMessages}
 
 -- a frame has a first word at least

@@ -4,18 +4,16 @@
 -- that each line that moves all that waits has parted the messages of the Wayland protocol before it from those behind it
 -- (`PartedAll`). `Ended` is what holds at the end: the lines that were done, those that were not, and how it stands there. All
 -- laws of runs follow from `ended`.
-use Rattle.std.proofs.Common.{◌≡◌, ℕ, ◌+◌, ◌≤◌, Bool, true, false, cond, List, [], ◌∷◌, ◌++◌, length, take, Option, Some, None, max, inl, inr, refl, sym, ap, ◌∙◌, subst, subst₂, append_assoc, append-nil, arith, take_all, le_refl}
+use Rattle.std.proofs.Common.{◌≡◌, ℕ, ◌≤◌, Bool, true, false, cond, List, [], ◌∷◌, ◌++◌, length, take, Option, Some, None, inl, inr, refl, sym, ap, ◌∙◌, subst, append_assoc, append-nil, arith, take_all, le_refl}
 use Rattle.wl_tables.specs.declared.way.Way.{Way}
-use Rattle.wl_tables.specs.declared.way.Way.TheVariants.{Request, Event}
 use Rattle.wl_wire.specs.Wire.{cut, cut_fault}
-use Rattle.wl_objects.specs.Registry.{first_state, visible}
 use Rattle.wp_outside.specs.declared.kinds.Side.{Side}
 use Rattle.wp_outside.specs.declared.kinds.Side.TheVariants.{Near, Far}
 use Rattle.script_lang.specs.Puts.{put_by, is_stop, before_stop, put_by_all}
 use Rattle.script_lang.specs.declared.steps.Step.{Step}
 use Rattle.script_lang.specs.declared.steps.StepKind.{StepKind}
 use Rattle.script_lang.specs.declared.steps.StepKind.TheVariants as line
-use Rattle.replay_model.specs.Halves.{Half, Pair, first_half, first_pair, of_way, taken_by, given_by, made_by}
+use Rattle.replay_model.specs.Halves.{Half, Pair, first_half, first_pair, taken_by, given_by, made_by}
 use Rattle.replay_model.specs.Headline.{Starts}
 use Rattle.replay_model.specs.Orders.{Parted}
 use Rattle.replay_model.specs.Rows.{frames_of, whole_in}
@@ -25,11 +23,11 @@ use Rattle.replay_model.specs.declared.ends.End.TheVariants as ends
 use Rattle.replay_model.specs.declared.ends.Fault.{Fault}
 use Rattle.replay_model.proofs.Fronts.{starts_refl, starts_trans, last_or_before}
 use Rattle.replay_model.proofs.FrameRows.{whole_all}
-use Rattle.replay_model.proofs.ManyMoves.{came_rounds, came_line, put_where}
+use Rattle.replay_model.proofs.ManyMoves.{came_rounds, came_line}
 use Rattle.replay_model.proofs.Passages.{passes_nothing}
 use Rattle.replay_model.proofs.Pulling.{Flows}
 use Rattle.replay_model.proofs.Settling.{Settled, rounds_settled}
-use Rattle.replay_model.proofs.Standing.{Stands, After, Grew, Came}
+use Rattle.replay_model.proofs.Standing.{Stands, After, Came}
 use Rattle.replay_model.proofs.Wires.{Took, cut_nothing}
 
 -- ---- what is known between lines, and at the end

@@ -1,5 +1,5 @@
 -- What many moves make of where a replay stands: those of a line, a round of them, and rounds until one changes nothing. The moves are this project's own.
-use Rattle.std.proofs.Common.{◌≡◌, ℕ, zero, suc, ◌≤◌, Bool, true, false, List, [], ◌∷◌, ◌++◌, Option, Some, None, max, inl, inr, refl, sym, ap, ◌∙◌, subst, append_assoc, append-nil, arith}
+use Rattle.std.proofs.Common.{ℕ, zero, suc, List, [], ◌∷◌, Option, Some, None, inl, inr, refl, sym, ◌∙◌, subst, append-nil}
 use Rattle.std.specs.List.{AllByRecursion}
 use Rattle.wp_outside.specs.declared.kinds.Side.{Side}
 use Rattle.wp_outside.specs.declared.kinds.Side.TheVariants.{Near, Far}
@@ -8,11 +8,11 @@ use Rattle.script_lang.specs.declared.steps.StepKind.{StepKind}
 use Rattle.script_lang.specs.declared.steps.StepKind.TheVariants as line
 use Rattle.replay_model.specs.Halves.{Pair}
 use Rattle.replay_model.specs.Moves.{Move, Put, Take, Connect, ConnectIfMade, Push, Pull, Moves, MovesAll}
-use Rattle.replay_model.specs.Runs.{round, Rounds, Settles, settles, moves_of, MOST, Does, DoesBy}
+use Rattle.replay_model.specs.Runs.{round, Rounds, Settles, MOST, Does}
 use Rattle.replay_model.specs.declared.ends.Fault.{Fault}
-use Rattle.replay_model.proofs.OneMove.{put_in, came}
+use Rattle.replay_model.proofs.OneMove.{came}
 use Rattle.replay_model.proofs.Options.{not_both}
-use Rattle.replay_model.proofs.Standing.{Stands, After, Grew, Came, grew_refl, grew_trans, came_at}
+use Rattle.replay_model.proofs.Standing.{Stands, Came, grew_refl, grew_trans, came_at}
 
 -- a move that puts nothing
 abbrev pub IsQuiet : Move → Type 0

@@ -1,25 +1,22 @@
 -- What each move makes of where a replay stands, by the words of the Wayland protocol's two streams. A move that is made in one
 -- half leaves the other half alone, so each is a lemma on a half, put into the pair at its place.
-use Rattle.std.proofs.Common.{◌≡◌, ℕ, ◌+◌, ◌≤◌, ◌⊎◌, Bool, true, false, cond, ◌||◌, List, [], ◌∷◌, ◌++◌, length, min, Option, Some, None, option_map, refl, sym, ap, ◌∙◌, subst₂, append_assoc, append-nil, arith, le_refl, le_of_eq}
-use Rattle.wl_tables.specs.declared.way.Way.{Way}
+use Rattle.std.proofs.Common.{◌≡◌, ℕ, ◌+◌, ◌≤◌, Bool, true, false, cond, ◌||◌, List, [], length, min, Option, Some, None, option_map, refl, sym, append-nil, arith, le_refl, le_of_eq}
 use Rattle.wp_outside.specs.declared.kinds.Side.{Side}
 use Rattle.wp_outside.specs.declared.kinds.Side.TheVariants.{Near, Far}
 use Rattle.wp_outside.specs.declared.kinds.Direction.{Direction}
 use Rattle.wp_outside.specs.declared.kinds.Direction.TheVariants.{Up, Down}
 use Rattle.script_lang.specs.Puts.{if_peer}
-use Rattle.replay_model.specs.Halves.{Half, Pair, first_pair, other, half_of, given_by, made_by}
-use Rattle.replay_model.specs.Headline.{Starts, FrameRefused}
+use Rattle.replay_model.specs.Halves.{Half, Pair, made_by}
 use Rattle.replay_model.specs.Moves.{Move, Put, Take, Connect, ConnectIfMade, Push, Pull, Moves, with_put, with_pushed, frame_bytes, any_made}
 use Rattle.replay_model.specs.declared.ends.Fault.{Fault}
 use Rattle.replay_model.specs.declared.ends.Fault.TheVariants.{Peer, Frame}
 use Rattle.replay_model.specs.declared.ends.Refusal.{Refusal}
-use Rattle.replay_model.proofs.Fronts.{starts_refl, starts_same, starts_trans, starts_append}
-use Rattle.replay_model.proofs.Passages.{passes_nothing}
-use Rattle.replay_model.proofs.Pulling.{Flows, Brings, FrameIs, AfterPull, PullComes, brings, flow_out, flow_pushed, flow_in, pulled_half, pulls}
+use Rattle.replay_model.proofs.Fronts.{starts_refl, starts_same, starts_append}
+use Rattle.replay_model.proofs.Pulling.{Flows, Brings, AfterPull, PullComes, flow_out, flow_pushed, flow_in, pulled_half, pulls}
 use Rattle.replay_model.proofs.Sides.{made_grows, made_stays, given_stays}
 use Rattle.replay_model.proofs.Ways.{tagged}
-use Rattle.replay_model.proofs.Wires.{Held, Took, NextIs, SizeIs, AfterTake, TakeComes, held, takes, took_put, took_heard}
-use Rattle.replay_model.proofs.Standing.{Stands, PeerFell, FrameFell, After, HalfGrew, Grew, Came, half_grew_refl, grew_refl, came_at, quiet}
+use Rattle.replay_model.proofs.Wires.{Held, Took, AfterTake, TakeComes, held, takes, took_put, took_heard}
+use Rattle.replay_model.proofs.Standing.{Stands, After, HalfGrew, Came, half_grew_refl, grew_refl, came_at, quiet}
 
 -- ---- bytes are put
 

@@ -1,10 +1,10 @@
 -- A script's runs all end in one way: each move from one place comes to one, so each round, each line and the whole run do. The scripts are this project's own.
-use Rattle.std.proofs.Common.{◌≡◌, ◌≢◌, ℕ, zero, suc, Bool, true, false, List, [], ◌∷◌, Option, Some, None, inl, inr, refl, sym, ap, ◌∙◌, subst}
+use Rattle.std.proofs.Common.{◌≡◌, ℕ, zero, suc, Bool, true, false, List, [], ◌∷◌, Option, Some, None, inl, inr, refl, sym, ap, ◌∙◌, subst}
 use Rattle.script_lang.specs.Puts.{is_stop}
 use Rattle.script_lang.specs.declared.steps.Step.{Step}
 use Rattle.script_lang.specs.declared.steps.StepKind.{StepKind}
 use Rattle.replay_model.specs.Halves.{Pair}
-use Rattle.replay_model.specs.Moves.{Move, Moves, MovesAll}
+use Rattle.replay_model.specs.Moves.{Move, MovesAll}
 use Rattle.replay_model.specs.Runs.{round, Rounds, settles, moves_of, MOST, Does, DoesBy, size_after, end_by, PlaysLine, Plays}
 use Rattle.replay_model.specs.declared.ends.End.{End}
 use Rattle.replay_model.specs.declared.ends.End.TheVariants as ends

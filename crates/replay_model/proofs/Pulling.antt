@@ -1,16 +1,15 @@
 -- What a proxy reads of the other's frames. In a direction that met no fault the reader has given its peer just the messages of
 -- the Wayland protocol whose frames lie in the bytes that it read, and it has read no more than was written. What it reads next
 -- goes on behind those, up to a message that it refuses; what its writer makes meanwhile comes behind the frames that were made.
-use Rattle.std.proofs.Common.{◌≡◌, ℕ, ◌+◌, ◌≤◌, List, [], ◌∷◌, ◌++◌, length, drop, min, Option, Some, None, refl, sym, ap, ◌∙◌, subst, subst₂, append_assoc, append-nil, arith, length-append, le_trans}
+use Rattle.std.proofs.Common.{◌≡◌, ℕ, ◌+◌, ◌≤◌, List, ◌∷◌, ◌++◌, length, drop, min, Option, Some, None, refl, sym, ap, ◌∙◌, subst, subst₂, append_assoc, arith, length-append, le_trans}
 use Rattle.std.proofs.Math.Nat.{min-le_left}
-use Rattle.wl_tables.specs.declared.way.Way.{Way}
 use Rattle.wp_outside.specs.declared.kinds.Side.{Side}
-use Rattle.replay_model.specs.Halves.{Half, Pair, other, half_of, heard_way, taken_by, given_by, made_by}
+use Rattle.replay_model.specs.Halves.{Half, other, heard_way, given_by, made_by}
 use Rattle.replay_model.specs.Headline.{Starts, Passes, Carries}
 use Rattle.replay_model.specs.Passing.{refusal, Passage, pass_all}
 use Rattle.replay_model.specs.Rows.{frame_of, frames_of, whole_in}
 use Rattle.replay_model.specs.declared.ends.Refusal.{Refusal}
-use Rattle.replay_model.proofs.Fronts.{starts_same, starts_trans, starts_append, starts_drop, starts_length}
+use Rattle.replay_model.proofs.Fronts.{starts_same, starts_trans, starts_drop}
 use Rattle.replay_model.proofs.FrameRows.{frames_append, whole_starts, whole_grows, whole_behind, whole_fit}
 use Rattle.replay_model.proofs.Passages.{Comes, Passed, passed}
 use Rattle.replay_model.proofs.Sides.{PassedHeard, given_added}
@@ -114,8 +113,15 @@ in_frames reader from to upto it ahead =
 -- the reader's messages and the refused one lie in what was read
 frames_read : (made given rest : List (List ℕ)) (message : List ℕ) (n : ℕ) → whole_in made n ≡ given ++ message ∷ rest → length (frames_of given ++ frame_of message) ≤ n
 frames_read made given rest message n is =
-    omega (arith, whole_fit made n, ap (λ (l : List (List ℕ)). length (frames_of l)) is, ap length (frames_append given (message ∷ rest)),
-      length-append (frames_of given) (frame_of message ++ frames_of rest), length-append (frame_of message) (frames_of rest), length-append (frames_of given) (frame_of message))
+    omega (
+      arith,
+      whole_fit made n,
+      ap (λ (l : List (List ℕ)). length (frames_of l)) is,
+      ap length (frames_append given (message ∷ rest)),
+      length-append (frames_of given) (frame_of message ++ frames_of rest),
+      length-append (frame_of message) (frames_of rest),
+      length-append (frames_of given) (frame_of message),
+    )
 
 pull_comes : (reader : Side) (from old new : Half) (more : List (List ℕ)) (refused : Option Refusal)
     → given_by reader old ++ next_in_frames reader from old new.pulled ≡ whole_in (made_by (other reader) from) new.pulled

@@ -1,13 +1,13 @@
 -- What each peer received wherever a replay ends, and what it came to by how it ended, in the words of the Wayland protocol's two streams.
-use Rattle.std.proofs.Common.{◌≡◌, ℕ, List, [], ◌∷◌, ◌++◌, length, take, Option, Some, None, inl, inr, ◌⊎◌, refl, sym, ap, ◌∙◌, subst, append_assoc, append-nil}
+use Rattle.std.proofs.Common.{◌≡◌, ℕ, List, [], ◌∷◌, ◌++◌, take, inl, inr, ◌⊎◌, sym, ap, ◌∙◌, subst, append_assoc, append-nil}
 use Rattle.transfer_frames.specs.Laws.{NoFrame}
 use Rattle.wl_wire.specs.Wire.{cut, cut_fault}
 use Rattle.wp_outside.specs.declared.kinds.Side.{Side}
 use Rattle.wp_outside.specs.declared.kinds.Side.TheVariants.{Near, Far}
 use Rattle.script_lang.specs.Puts.{before_stop, put_by_all, puts}
 use Rattle.script_lang.specs.declared.steps.Step.{Step}
-use Rattle.replay_model.specs.Halves.{Half, Pair, other, half_of, taken_by, given_by, made_by}
-use Rattle.replay_model.specs.Headline.{Starts, Holds, HoldsAll, TookAll, NextRefused, SizeRefused, ReadsAll, EndsWith}
+use Rattle.replay_model.specs.Halves.{Half, Pair, half_of, taken_by, given_by, made_by}
+use Rattle.replay_model.specs.Headline.{Starts, Holds, HoldsAll, NextRefused, SizeRefused, ReadsAll, EndsWith}
 use Rattle.replay_model.specs.Rows.{frames_of}
 use Rattle.replay_model.specs.declared.ends.End.{End}
 use Rattle.replay_model.specs.declared.ends.End.TheVariants as ends
@@ -19,7 +19,7 @@ use Rattle.replay_model.proofs.Lines.{Outcome, Ended, HasPut, MovedAll, moved_al
 use Rattle.replay_model.proofs.Pulling.{Flows, Brings, brings, carries}
 use Rattle.replay_model.proofs.Settling.{Settled}
 use Rattle.replay_model.proofs.Sides.{made_whole}
-use Rattle.replay_model.proofs.Standing.{Stands, PeerFell, FrameFell}
+use Rattle.replay_model.proofs.Standing.{Stands}
 use Rattle.replay_model.proofs.Ways.{AreMessages}
 use Rattle.replay_model.proofs.Wires.{Held, NextIs, SizeIs, Stuck, held, held_whole, cut_more, stuck_more}
 

@@ -1,7 +1,7 @@
 -- Two moves of one kind from one place end alike. A proxy that meets a refusal may have taken or read more or fewer bytes with
 -- it, but behind a message of the Wayland protocol that is refused nothing matters: the longer front of the bytes is refused at
 -- the same message as the shorter one, with the same messages passed. Where nothing is refused both come as far as they may.
-use Rattle.std.proofs.Common.{◌≡◌, ℕ, ◌+◌, ◌≤◌, ◌⊎◌, Bool, List, [], ◌∷◌, ◌++◌, length, take, drop, min, Option, Some, None, option_map, inl, inr, refl, sym, ap, ◌∙◌, subst, subst₂, append_assoc, arith, le_trans}
+use Rattle.std.proofs.Common.{◌≡◌, ℕ, ◌+◌, ◌≤◌, ◌⊎◌, List, ◌++◌, length, take, drop, min, Option, Some, None, option_map, inl, inr, refl, sym, ap, ◌∙◌, subst, append_assoc, arith, le_trans}
 use Rattle.std.proofs.lemmas.Bool.{cases_lt}
 use Rattle.std.proofs.lemmas.List.{append_cancel_left, take-take}
 use Rattle.wl_wire.specs.declared.faults.WireFault.{WireFault}
@@ -215,10 +215,10 @@ same_move (Push dir most) old a b stop met it p q = same_there stop met a b _ p.
 same_move (Pull Up most) old a b stop met it p q =
     same_far old a b (pulled_half Far old.near old.far p.1.upto) (pulled_half Far old.near old.far q.1.upto) p.0 q.0 stop met (Frame Far)
     (agreed_halves Far old.near old.far p.1.upto q.1.upto p.0 q.0 p.1.judged q.1.judged
-      (two_pulls Far most old.near old.far p.1.upto q.1.upto it.up p.1.ahead q.1.ahead p.1.within q.1.within (λ e. p.1.all (p.1.judged ∙ e)) (λ e. q.1.all (q.1.judged ∙ e))))
+    (two_pulls Far most old.near old.far p.1.upto q.1.upto it.up p.1.ahead q.1.ahead p.1.within q.1.within (λ e. p.1.all (p.1.judged ∙ e)) (λ e. q.1.all (q.1.judged ∙ e))))
     p.1.came q.1.came p.2 q.2
 same_move (Pull Down most) old a b stop met it p q =
     same_near old a b (pulled_half Near old.far old.near p.1.upto) (pulled_half Near old.far old.near q.1.upto) p.0 q.0 stop met (Frame Near)
     (agreed_halves Near old.far old.near p.1.upto q.1.upto p.0 q.0 p.1.judged q.1.judged
-      (two_pulls Near most old.far old.near p.1.upto q.1.upto it.down p.1.ahead q.1.ahead p.1.within q.1.within (λ e. p.1.all (p.1.judged ∙ e)) (λ e. q.1.all (q.1.judged ∙ e))))
+    (two_pulls Near most old.far old.near p.1.upto q.1.upto it.down p.1.ahead q.1.ahead p.1.within q.1.within (λ e. p.1.all (p.1.judged ∙ e)) (λ e. q.1.all (q.1.judged ∙ e))))
     p.1.came q.1.came p.2 q.2

@@ -4,24 +4,22 @@
 -- No move takes anything back (`Grew`). So where a whole round ends where it began, each of its moves left all as it was, and
 -- what a move says of its count says it of the first pair: the count is the least of all that there is and of itself and the
 -- round's size, which is at least 1, so it is all that there is. Where no connection was made there is no frame to send.
-use Rattle.std.proofs.Common.{◌≡◌, ℕ, zero, suc, ◌+◌, ◌≤◌, Bool, true, false, cond, ◌||◌, List, [], ◌∷◌, ◌++◌, length, min, Option, Some, None, option_map, inl, inr, refl, sym, ap, ◌∙◌, subst, arith, le_antisymm}
-use Rattle.wl_tables.specs.declared.way.Way.{Way}
+use Rattle.std.proofs.Common.{◌≡◌, ℕ, zero, suc, ◌+◌, ◌≤◌, Bool, true, false, cond, ◌||◌, List, [], ◌∷◌, length, min, Option, Some, None, inl, inr, refl, sym, ap, ◌∙◌, subst, arith, le_antisymm}
 use Rattle.wl_tables.specs.declared.way.Way.TheVariants.{Request}
 use Rattle.wl_objects.specs.Registry.{first_state, visible}
 use Rattle.wp_outside.specs.declared.kinds.Side.{Side}
 use Rattle.wp_outside.specs.declared.kinds.Side.TheVariants.{Near, Far}
 use Rattle.wp_outside.specs.declared.kinds.Direction.TheVariants.{Up, Down}
-use Rattle.replay_model.specs.Halves.{Half, Pair, half_of, of_way, made_by}
-use Rattle.replay_model.specs.Moves.{Move, Take, ConnectIfMade, Push, Pull, Moves, MovesAll, Takes, Pulls, frame_bytes, with_pushed, has_some, any_made}
+use Rattle.replay_model.specs.Halves.{Half, Pair, of_way, made_by}
+use Rattle.replay_model.specs.Moves.{Move, Take, ConnectIfMade, Push, Pull, Moves, MovesAll, Takes, frame_bytes, with_pushed, has_some, any_made}
 use Rattle.replay_model.specs.Rows.{frames_of}
 use Rattle.replay_model.specs.Runs.{round, Rounds}
-use Rattle.replay_model.specs.declared.ends.Fault.{Fault}
 use Rattle.replay_model.specs.declared.ends.Fault.TheVariants.{Peer, Frame}
 use Rattle.replay_model.specs.declared.ends.Refusal.{Refusal}
 use Rattle.replay_model.proofs.Fronts.{starts_both}
-use Rattle.replay_model.proofs.ManyMoves.{IsQuiet, came_quiet, came_round}
+use Rattle.replay_model.proofs.ManyMoves.{came_quiet, came_round}
 use Rattle.replay_model.proofs.Options.{not_both, made_of_none}
-use Rattle.replay_model.proofs.Standing.{Stands, HalfGrew, Grew, Came, grew_refl, grew_trans}
+use Rattle.replay_model.proofs.Standing.{Stands, HalfGrew, Grew, grew_refl, grew_trans}
 
 -- nothing waits
 pub record Settled (pair : Pair) : Type 0 where

@@ -1,14 +1,13 @@
 -- What a proxy took, gave and made, as messages of the Wayland protocol come behind those that it passed: its own ones add to what it took and may add to what it made, those of the other proxy add to what it gave.
-use Rattle.std.proofs.Common.{◌≡◌, ℕ, List, [], ◌++◌, refl, sym, ap, ◌∙◌, subst}
+use Rattle.std.proofs.Common.{◌≡◌, ℕ, List, ◌++◌, sym, ap, ◌∙◌, subst}
 use Rattle.wl_tables.specs.declared.way.Way.{Way}
-use Rattle.wl_tables.specs.declared.way.Way.TheVariants.{Request, Event}
+use Rattle.wl_tables.specs.declared.way.Way.TheVariants.{Event}
 use Rattle.wl_objects.specs.Registry.{first_state, visible}
 use Rattle.wp_outside.specs.declared.kinds.Side.{Side}
 use Rattle.wp_outside.specs.declared.kinds.Side.TheVariants.{Near, Far}
 use Rattle.replay_model.specs.Halves.{Half, own_way, heard_way, of_way, taken_by, given_by, made_by}
 use Rattle.replay_model.specs.Headline.{Starts, Passes}
 use Rattle.replay_model.specs.Passing.{objects_after}
-use Rattle.replay_model.proofs.Fronts.{starts_append, starts_same}
 use Rattle.replay_model.proofs.Ways.{tagged, requests_added, events_added, requests_stay, events_stay, visible_more, visible_stays, AreMessages, whole_visible}
 
 own_added : (side : Side) (order : List (Way × List ℕ)) (more : List (List ℕ)) → of_way (own_way side) (order ++ tagged (own_way side) more) ≡ of_way (own_way side) order ++ more

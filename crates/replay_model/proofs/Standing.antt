@@ -4,25 +4,17 @@
 -- the bytes that they took, and in both directions the reader has given just those whose frames it read. `After` is what a move
 -- leaves: `Stands` again, or, behind a fault, what is left of it and the message or the size that is refused. `Grew` says that
 -- nothing is taken back, and `Came` is all that is known of a move, or of some.
-use Rattle.std.proofs.Common.{◌≡◌, ℕ, ◌+◌, ◌≤◌, ◌⊎◌, Bool, true, false, cond, ◌||◌, List, [], ◌∷◌, ◌++◌, length, min, Option, Some, None, option_map, refl, sym, ap, ◌∙◌, subst₂, append_assoc, append-nil, arith, le_refl, le_trans}
-use Rattle.wl_tables.specs.declared.way.Way.{Way}
+use Rattle.std.proofs.Common.{◌≡◌, ℕ, ◌≤◌, ◌⊎◌, true, List, [], ◌++◌, Option, Some, None, sym, ◌∙◌, subst₂, append-nil, le_refl, le_trans}
 use Rattle.wp_outside.specs.declared.kinds.Side.{Side}
 use Rattle.wp_outside.specs.declared.kinds.Side.TheVariants.{Near, Far}
-use Rattle.wp_outside.specs.declared.kinds.Direction.{Direction}
-use Rattle.wp_outside.specs.declared.kinds.Direction.TheVariants.{Up, Down}
-use Rattle.script_lang.specs.Puts.{if_peer}
-use Rattle.replay_model.specs.Halves.{Half, Pair, first_pair, other, half_of, given_by, made_by}
+use Rattle.replay_model.specs.Halves.{Half, Pair, other, half_of}
 use Rattle.replay_model.specs.Headline.{Starts, FrameRefused}
-use Rattle.replay_model.specs.Moves.{Move, Put, Take, Connect, ConnectIfMade, Push, Pull, Moves, with_put, with_pushed, frame_bytes, any_made}
 use Rattle.replay_model.specs.declared.ends.Fault.{Fault}
 use Rattle.replay_model.specs.declared.ends.Fault.TheVariants.{Peer, Frame}
 use Rattle.replay_model.specs.declared.ends.Refusal.{Refusal}
-use Rattle.replay_model.proofs.Fronts.{starts_refl, starts_same, starts_trans, starts_append}
-use Rattle.replay_model.proofs.Passages.{passes_nothing}
-use Rattle.replay_model.proofs.Pulling.{Flows, Brings, FrameIs, AfterPull, PullComes, brings, flow_out, flow_pushed, flow_in, pulls}
-use Rattle.replay_model.proofs.Sides.{made_grows, made_stays, given_stays}
-use Rattle.replay_model.proofs.Ways.{tagged}
-use Rattle.replay_model.proofs.Wires.{Held, Took, NextIs, SizeIs, AfterTake, TakeComes, held, takes, took_put, took_heard}
+use Rattle.replay_model.proofs.Fronts.{starts_refl, starts_trans}
+use Rattle.replay_model.proofs.Pulling.{Flows, Brings}
+use Rattle.replay_model.proofs.Wires.{Held, Took, NextIs, SizeIs}
 
 -- ---- where a replay stands
 

@@ -1,7 +1,7 @@
 -- What a proxy takes from its peer's wire. The bytes of the wire are cut into messages of the Wayland protocol from the front
 -- on, so what is cut of the first bytes is a front of what is cut of all of them. A proxy that met no fault has passed all that
 -- is cut of the bytes that it took; what it takes next goes on behind that, up to a message that is refused or a size at fault.
-use Rattle.std.proofs.Common.{◌≡◌, ℕ, ◌+◌, ◌≤◌, ◌⊎◌, inl, inr, List, [], ◌∷◌, ◌++◌, length, take, drop, min, Option, Some, None, refl, sym, ap, ◌∙◌, subst, subst₂, append_assoc, append-nil, arith, take-append-drop, length-append, le_trans}
+use Rattle.std.proofs.Common.{◌≡◌, ℕ, ◌+◌, ◌≤◌, ◌⊎◌, inl, inr, List, [], ◌∷◌, ◌++◌, length, take, drop, Option, Some, None, refl, sym, ap, ◌∙◌, subst, subst₂, append_assoc, arith, take-append-drop, length-append, le_trans}
 use Rattle.std.proofs.Math.Nat.{min-le_left}
 use Rattle.std.proofs.lemmas.List.{take-take, take-append-le}
 use Rattle.std.proofs.lemmas.List.Elements.{recursion_from_All}
@@ -11,15 +11,14 @@ use Rattle.wl_wire.specs.Wire.{IsMessage, first, fault_in, cut, cut_rest, cut_fa
 use Rattle.wl_wire.proofs.Cutting.{stops-nil}
 use Rattle.wl_wire.proofs.FrontLemmas.{first-short}
 use Rattle.wl_wire.proofs.CuttingLaws.{cut-nothing, cut-goes_on, cut-joins, cut-fault-stays}
-use Rattle.wl_tables.specs.declared.way.Way.{Way}
 use Rattle.wp_outside.specs.declared.kinds.Side.{Side}
 use Rattle.replay_model.specs.Halves.{Half, own_way, taken_by}
 use Rattle.replay_model.specs.Headline.{Starts, Passes}
 use Rattle.replay_model.specs.Moves.{or_size, taking, Takes, with_put}
-use Rattle.replay_model.specs.Passing.{refusal, Passage}
+use Rattle.replay_model.specs.Passing.{refusal}
 use Rattle.replay_model.specs.declared.ends.Refusal.{Refusal}
 use Rattle.replay_model.specs.declared.ends.Refusal.TheVariants.{Object}
-use Rattle.replay_model.proofs.Fronts.{starts_refl, starts_same, starts_trans, starts_append, starts_drop}
+use Rattle.replay_model.proofs.Fronts.{starts_same, starts_trans, starts_drop}
 use Rattle.replay_model.proofs.Passages.{Comes, Passed, passed}
 use Rattle.replay_model.proofs.Sides.{PassedOwn, PassedHeard, taken_added, taken_stays}
 use Rattle.replay_model.proofs.Ways.{AreMessages, whole_front}
