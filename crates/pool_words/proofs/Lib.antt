@@ -1,5 +1,6 @@
 pub mod Histories
 pub mod Seats
+pub mod Shared
 pub mod Steps
 pub mod Meetings
 pub mod Known

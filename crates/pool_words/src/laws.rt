@@ -1,6 +1,7 @@
 //! Laws of what words held.
 
 ghost use Rattle.pool_words.specs.Laws.{LastWriteStands, UnnamedIsZero, LaterWritesLeave, UntouchedStays, UntouchedIsCommitted, StoodStays};
+ghost use Rattle.pool_words.specs.Sharing.{PenIsShared, EyeIsShared, ReceiptIsShared};
 
 /// A word that a write names holds its value, until another write names the word.
 pub fn last_write_stands()
@@ -30,4 +31,11 @@ pub fn untouched_is_committed()
 /// A load that has stood has stood in each longer history.
 pub fn stood_stays()
     ensures { StoodStays }
+{}
+
+/// Threads may share pens, eyes and receipts by reference.
+pub fn shared_by_reference()
+    ensures pen { PenIsShared }
+    ensures eye { EyeIsShared }
+    ensures receipt { ReceiptIsShared }
 {}

@@ -2,6 +2,7 @@
 use super::*;
 use std::test::*;
 
+mod shared;
 mod threads;
 
 #[test]

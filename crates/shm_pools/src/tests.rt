@@ -18,9 +18,10 @@ const IMAGE: Buffer = Buffer {
 fn file_pen(rt: HostRuntime) -> Result<(), Fail> {
     let mut pen = FilePen::new(rt.alloc(), 1, 64)?;
     pen.grow(128)?;
+    pen.grow(192)?;
     assert_eq!(rt; pen.number(), 1);
     let shared = pen.share()?;
-    assert_eq!(rt; (shared.number, shared.eyes.as_slice().len()), (1, 2));
+    assert_eq!(rt; (shared.number, shared.eyes.as_slice().len()), (1, 3));
     for eye in shared.eyes.as_slice() {
         assert_eq!(rt; (eye.words(), eye.low()), (8, 0));
     }
@@ -70,5 +71,6 @@ fn words_of_two_segments(rt: HostRuntime) -> Result<(), Fail> {
     let (receipt, words) = look(&mut pen, 1)?;
     assert_eq!(rt; words, [0, 5]);
     assert!(rt; pen.settle(1, receipt).is_ok());
+    assert_eq!(rt; pen.number(), -3);
     Ok(())
 }
