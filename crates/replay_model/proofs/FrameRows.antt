@@ -1,4 +1,9 @@
--- Rows of frames with one message of the Wayland wire format each: which whole frames lie in the first bytes of a row, and what stands behind them there.
+-- Rows of frames with one message of the Wayland wire format each: which whole frames lie in the first bytes of a row, and what
+-- stands behind them there.
+--
+-- Each lemma goes over the messages of the row and asks of the first frame whether it lies wholly in those bytes. If it does,
+-- the rest of the row is asked with as many bytes fewer; if not, the bytes are a part of that frame, which is no whole frame
+-- and no fault, so nothing more is there. A frame takes four bytes at least, so no bytes have no frame.
 use Rattle.std.proofs.Common.{◌≡◌, ◌≢◌, ℕ, ◌+◌, ◌-◌, ◌<◌, ◌≤◌, List, [], ◌∷◌, ◌++◌, length, take, drop, Some, None, Ok, inl, inr, refl, sym, ap, ◌∙◌, append_assoc, append-nil, arith, length-append, length-drop, take-append-drop, suc, get_or, le_trans, le_of_eq}
 use Rattle.std.proofs.lemmas.Bool.{cases_lt, le-leb, lt-leb}
 use Rattle.std.proofs.lemmas.Grind.{flat_map-append}

@@ -1,4 +1,10 @@
--- Messages that pass one by one, in the order of the Wayland protocol's objects: what an order that passes is, and how far messages of one way come behind it.
+-- Messages that pass one by one, in the order of the Wayland protocol's objects: what an order that passes is, and how far
+-- messages of one way come behind it.
+--
+-- An order passes if tracking follows it and none of its messages is refused behind those before it. A message that is not
+-- refused behind an order that passes gives one that passes, since its step leaves just the objects that the longer order
+-- leaves. So messages of one way pass behind it up to the first that is refused (`passed`), and what comes behind a refused one
+-- changes nothing (`refused_stays`).
 use Rattle.std.proofs.Common.{◌≡◌, ℕ, List, [], ◌∷◌, ◌++◌, Option, Some, None, Result, Ok, Err, inl, inr, refl, sym, ap, ◌∙◌, subst₂, append_assoc, append-nil}
 use Rattle.wl_wire.specs.declared.faults.ObjectFault.{ObjectFault}
 use Rattle.wl_tables.specs.declared.way.Way.{Way}
