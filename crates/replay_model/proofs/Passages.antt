@@ -11,7 +11,7 @@ use Rattle.wl_tables.specs.declared.way.Way.{Way}
 use Rattle.wl_objects.specs.Entries.{Tracked, first_objects}
 use Rattle.wl_objects.specs.Tracking.{then_goes, Step, step, track}
 use Rattle.wl_objects.specs.Registry.{first_state}
-use Rattle.wl_objects.proofs.Parts.{track-goes-on, front-is-tracked}
+use Rattle.wl_objects.proofs.Parts.{track-goes-on}
 use Rattle.wl_objects.proofs.Shown.{state-is-tracked}
 use Rattle.replay_model.specs.Headline.{Passes}
 use Rattle.replay_model.specs.Passing.{objects_after, refusal_of, refusal, Passage, or_refused, pass_all}
@@ -24,15 +24,6 @@ objects_of order objects passed = passed ∙ ap (λ (it : Tracked). Ok it) (sym 
 
 pub passes_nothing : Passes []
 passes_nothing = record { tracked = refl; none_refused = λ front back it e. absurd (not_empty front it back e) }
-
-pub passes_front : (front back : List (Way × List ℕ)) → Passes (front ++ back) → Passes front
-passes_front front back passes =
-    let parts = front-is-tracked first_objects (objects_after (front ++ back)) front back passes.tracked in
-    record {
-      tracked = objects_of front parts.0 parts.1;
-      none_refused = λ before after it e.
-          passes.none_refused before (after ++ back) it (ap (λ (l : List (Way × List ℕ)). l ++ back) e ∙ append_assoc before (it ∷ after) back);
-    }
 
 -- a message that isn't refused passes the objects
 
