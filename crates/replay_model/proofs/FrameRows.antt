@@ -1,8 +1,13 @@
--- Rows of frames with one message of the Wayland wire format each: which whole frames lie in the first bytes of a row, and what stands behind them there.
-use Rattle.std.proofs.Common.{◌≡◌, ◌≢◌, ℕ, ◌+◌, ◌-◌, ◌<◌, ◌≤◌, List, [], ◌∷◌, ◌++◌, length, take, drop, Some, None, Ok, inl, inr, refl, sym, ap, ◌∙◌, append_assoc, append-nil, arith, length-append, length-drop, take-append-drop}
+-- Rows of frames with one message of the Wayland wire format each: which whole frames lie in the first bytes of a row, and what
+-- stands behind them there.
+--
+-- Each lemma goes over the messages of the row and asks of the first frame whether it lies wholly in those bytes. If it does,
+-- the rest of the row is asked with as many bytes fewer; if not, the bytes are a part of that frame, which is no whole frame
+-- and no fault, so nothing more is there. A frame takes four bytes at least, so no bytes have no frame.
+use Rattle.std.proofs.Common.{◌≡◌, ◌≢◌, ℕ, ◌+◌, ◌-◌, ◌<◌, ◌≤◌, List, [], ◌∷◌, ◌++◌, length, take, drop, Some, None, Ok, inl, inr, refl, sym, ap, ◌∙◌, append_assoc, append-nil, arith, length-append, length-drop, take-append-drop, suc, get_or, le_trans, le_of_eq}
 use Rattle.std.proofs.lemmas.Bool.{cases_lt, le-leb, lt-leb}
 use Rattle.std.proofs.lemmas.Grind.{flat_map-append}
-use Rattle.std.proofs.lemmas.List.{take-append-le}
+use Rattle.std.proofs.lemmas.List.{take-append-le, drop_more}
 use Rattle.std.proofs.Math.Seq.{take-append-add}
 use Rattle.wl_wire.specs.Wire.{IsMessage, cut_rest}
 use Rattle.wl_wire.proofs.Cutting.{stops-nil}
@@ -148,3 +153,26 @@ begun (message ∷ made) count whole = elim (cases_lt count (length (frame_of me
         part = later.part;
       }
 ]
+
+-- ---- one message after another
+
+-- how long a frame is
+pub length_frame : (message : List ℕ) → IsMessage message → length (frame_of message) ≡ length message + 4
+length_frame message whole = omega (arith, length-spelling (Protocol message), whole.is_padded)
+
+-- the next frame lies there wholly
+pub whole_next : (made : List (List ℕ)) (at size count : ℕ) (message : List ℕ) → at < length made → message ≡ get_or made at message → IsMessage message → size ≡ length message + 4 → size ≤ count
+    → length (whole_in (drop at made) count) ≡ suc (length (whole_in (drop (at + 1) made) (count - size)))
+whole_next made at size count message there is whole sized fits =
+    let long : size ≡ length (frame_of message) = sized ∙ sym (length_frame message whole) in
+    ap (λ (l : List (List ℕ)). length (whole_in l count)) (drop_more made at message there ∙ ap (λ (m : List ℕ). m ∷ drop (at + 1) made) (sym is))
+    ∙ ap (λ (l : List (List ℕ)). length l) (first_fits message (drop (at + 1) made) count (le_trans (le_of_eq (sym long)) fits))
+    ∙ ap (λ (n : ℕ). suc (length (whole_in (drop (at + 1) made) (count - n)))) (sym long)
+
+-- the next frame does not
+pub whole_stops : (made : List (List ℕ)) (at size count : ℕ) (message : List ℕ) → at < length made → message ≡ get_or made at message → IsMessage message → size ≡ length message + 4 → count < size
+    → length (whole_in (drop at made) count) ≡ 0
+whole_stops made at size count message there is whole sized part =
+    let long : size ≡ length (frame_of message) = sized ∙ sym (length_frame message whole) in
+    ap (λ (l : List (List ℕ)). length (whole_in l count)) (drop_more made at message there ∙ ap (λ (m : List ℕ). m ∷ drop (at + 1) made) (sym is))
+    ∙ ap (λ (l : List (List ℕ)). length l) (first_part message (drop (at + 1) made) count (le_trans part (le_of_eq long)))

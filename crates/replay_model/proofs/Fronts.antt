@@ -16,14 +16,6 @@ pub starts_trans : {X : Type 0} {xs ys zs : List X} → Starts xs ys → Starts 
 starts_trans {X} {xs} {ys} {zs} a b =
     record { rest = a.rest ++ b.rest; is = sym (append_assoc xs a.rest b.rest) ∙ ap (λ (l : List X). l ++ b.rest) a.is ∙ b.is }
 
-pub starts_more : {X : Type 0} {xs ys : List X} → Starts xs ys → (zs : List X) → Starts xs (ys ++ zs)
-starts_more {X} {xs} {ys} a zs = starts_trans a (starts_append ys zs)
-
--- behind the same front
-pub starts_behind : {X : Type 0} (front : List X) {xs ys : List X} → Starts xs ys → Starts (front ++ xs) (front ++ ys)
-starts_behind {X} front {xs} {ys} a =
-    record { rest = a.rest; is = append_assoc front xs a.rest ∙ ap (λ (l : List X). front ++ l) a.is }
-
 pub starts_length : {X : Type 0} {xs ys : List X} → Starts xs ys → length xs ≤ length ys
 starts_length {X} {xs} {ys} a = omega (arith, length-append xs a.rest, ap length a.is)
 

@@ -83,7 +83,7 @@ plays : (steps : List Step) (most : ℕ) (old new : Pair) (end : End) → Idle o
 plays [] most old new end idle did = rounds did.1.count most old new did.0 idle did.1.rounds
 plays (it ∷ steps) most old new end idle did =
     plays_by (is_stop it.what) it.what (λ between. Plays steps (size_after most it.what) between new end) old new end idle
-      (λ between off others. plays steps (size_after most it.what) between new end off others) did
+    (λ between off others. plays steps (size_after most it.what) between new end off others) did
 
 -- where a run made no connection, nothing was pushed
 pub idle_run : (steps : List Step) (pair : Pair) (end : End) → Runs steps pair end → Idle pair

@@ -1,4 +1,4 @@
--- What each move makes of where a replay stands, by the words of the Wayland protocol's two streams. A move that is made in one
+-- What each move makes of where a replay stands, in the words of the Wayland protocol's two streams. A move that is made in one
 -- half leaves the other half alone, so each is a lemma on a half, put into the pair at its place.
 use Rattle.std.proofs.Common.{◌≡◌, ℕ, ◌+◌, ◌≤◌, Bool, true, false, cond, ◌||◌, List, [], length, min, Option, Some, None, option_map, refl, sym, append-nil, arith, le_refl, le_of_eq}
 use Rattle.wp_outside.specs.declared.kinds.Side.{Side}

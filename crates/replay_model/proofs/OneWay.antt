@@ -15,9 +15,6 @@ use Rattle.replay_model.proofs.Options.{not_both}
 use Rattle.replay_model.proofs.SameMoves.{Same, same_both, same_move}
 use Rattle.replay_model.proofs.Standing.{Stands}
 
-one_fault : (a b : Fault) → Some a ≡ Some b → a ≡ b
-one_fault a b e = cc
-
 same_at : (a b : Pair) (stop met left right : Option Fault) → stop ≡ left → met ≡ right → left ≡ right → Same left right a b → Same stop met a b
 same_at a b stop met left right p q e it = record { told = p ∙ e ∙ sym q; near = it.near; far = it.far; linked = it.linked; same = λ none. it.same (sym p ∙ none) }
 

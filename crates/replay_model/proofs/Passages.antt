@@ -1,11 +1,17 @@
--- Messages that pass one by one, in the order of the Wayland protocol's objects: what an order that passes is, and how far messages of one way come behind it.
+-- Messages that pass one by one, in the order of the Wayland protocol's objects: what an order that passes is, and how far
+-- messages of one way come behind it.
+--
+-- An order passes if tracking follows it and none of its messages is refused behind those before it. A message that is not
+-- refused behind an order that passes gives one that passes, since its step leaves just the objects that the longer order
+-- leaves. So messages of one way pass behind it up to the first that is refused (`passed`), and what comes behind a refused one
+-- changes nothing (`refused_stays`).
 use Rattle.std.proofs.Common.{◌≡◌, ℕ, List, [], ◌∷◌, ◌++◌, Option, Some, None, Result, Ok, Err, inl, inr, refl, sym, ap, ◌∙◌, subst₂, append_assoc, append-nil}
 use Rattle.wl_wire.specs.declared.faults.ObjectFault.{ObjectFault}
 use Rattle.wl_tables.specs.declared.way.Way.{Way}
 use Rattle.wl_objects.specs.Entries.{Tracked, first_objects}
 use Rattle.wl_objects.specs.Tracking.{then_goes, Step, step, track}
 use Rattle.wl_objects.specs.Registry.{first_state}
-use Rattle.wl_objects.proofs.Parts.{track-goes-on, front-is-tracked}
+use Rattle.wl_objects.proofs.Parts.{track-goes-on}
 use Rattle.wl_objects.proofs.Shown.{state-is-tracked}
 use Rattle.replay_model.specs.Headline.{Passes}
 use Rattle.replay_model.specs.Passing.{objects_after, refusal_of, refusal, Passage, or_refused, pass_all}
@@ -18,15 +24,6 @@ objects_of order objects passed = passed ∙ ap (λ (it : Tracked). Ok it) (sym 
 
 pub passes_nothing : Passes []
 passes_nothing = record { tracked = refl; none_refused = λ front back it e. absurd (not_empty front it back e) }
-
-pub passes_front : (front back : List (Way × List ℕ)) → Passes (front ++ back) → Passes front
-passes_front front back passes =
-    let parts = front-is-tracked first_objects (objects_after (front ++ back)) front back passes.tracked in
-    record {
-      tracked = objects_of front parts.0 parts.1;
-      none_refused = λ before after it e.
-          passes.none_refused before (after ++ back) it (ap (λ (l : List (Way × List ℕ)). l ++ back) e ∙ append_assoc before (it ∷ after) back);
-    }
 
 -- a message that isn't refused passes the objects
 

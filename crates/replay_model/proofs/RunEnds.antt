@@ -1,4 +1,8 @@
--- What each peer received wherever a replay ends, and what it came to by how it ended, in the words of the Wayland protocol's two streams.
+-- What each peer received wherever a replay ends, and what it came to by how it ended, in the words of the Wayland protocol's
+-- two streams.
+--
+-- All is read off `Ended`. What was put when the replay ended is a front of what the script puts, so what is cut of it, and a
+-- message or a size that is refused there, is found at the same place in the whole script.
 use Rattle.std.proofs.Common.{◌≡◌, ℕ, List, [], ◌∷◌, ◌++◌, take, inl, inr, ◌⊎◌, sym, ap, ◌∙◌, subst, append_assoc, append-nil}
 use Rattle.transfer_frames.specs.Laws.{NoFrame}
 use Rattle.wl_wire.specs.Wire.{cut, cut_fault}

@@ -154,50 +154,42 @@ pulled_all pushed count there before after most some within same was is told =
     all_there pushed count most some within
     (is ∙ told ∙ ap (λ (n : ℕ). min n (before + most)) (sym same) ∙ ap (λ (n : ℕ). min pushed (n + most)) (sym was))
 
--- the pairs of a round, all alike
+-- one move of a round, to a pair that is as the first
+pub record Stayed (first : Pair) (move : Move) (old : Pair) : Type 0 where
+  pub new : Pair
+  pub moved : Moves move old new None
+  pub same : SamePair first new
+
+-- the moves of a round, all of them to pairs that are as the first
 pub record Alike (most : ℕ) (first : Pair) : Type 0 where
-  pub p1 : Pair
-  pub p2 : Pair
-  pub p3 : Pair
-  pub p4 : Pair
-  pub p5 : Pair
-  pub p6 : Pair
-  pub p7 : Pair
-  pub m1 : Moves (Take Near most) first p1 None
-  pub m2 : Moves (Take Far most) p1 p2 None
-  pub m3 : Moves ConnectIfMade p2 p3 None
-  pub m4 : Moves (Push Up most) p3 p4 None
-  pub m5 : Moves (Pull Up most) p4 p5 None
-  pub m6 : Moves (Push Down most) p5 p6 None
-  pub m7 : Moves (Pull Down most) p6 p7 None
-  pub s1 : SamePair first p1
-  pub s2 : SamePair first p2
-  pub s3 : SamePair first p3
-  pub s4 : SamePair first p4
-  pub s5 : SamePair first p5
-  pub s6 : SamePair first p6
-  pub s7 : SamePair first p7
+  pub near_take : Stayed first (Take Near most) first
+  pub far_take : Stayed first (Take Far most) near_take.new
+  pub link : Stayed first ConnectIfMade far_take.new
+  pub up_push : Stayed first (Push Up most) link.new
+  pub up_pull : Stayed first (Pull Up most) up_push.new
+  pub down_push : Stayed first (Push Down most) up_pull.new
+  pub down_pull : Stayed first (Pull Down most) down_push.new
 
 linked_if_made : (most : ℕ) (first : Pair) (it : Alike most first) → first.connected ≡ (first.connected || any_made first)
 linked_if_made most first it =
-    it.s3.linked ∙ ap (λ (p : Pair). p.connected) it.m3.0
-    ∙ ap (λ (b : Bool). b || any_made it.p2) (sym it.s2.linked)
-    ∙ ap (λ (l : List (List ℕ)). first.connected || (has_some l || has_some (made_by Far it.p2.far))) (sym (near_made first.near it.p2.near it.s2.near))
-    ∙ ap (λ (l : List (List ℕ)). first.connected || (has_some (made_by Near first.near) || has_some l)) (sym (far_made first.far it.p2.far it.s2.far))
+    it.link.same.linked ∙ ap (λ (p : Pair). p.connected) it.link.moved.0
+    ∙ ap (λ (b : Bool). b || any_made it.far_take.new) (sym it.far_take.same.linked)
+    ∙ ap (λ (l : List (List ℕ)). first.connected || (has_some l || has_some (made_by Far it.far_take.new.far))) (sym (near_made first.near it.far_take.new.near it.far_take.same.near))
+    ∙ ap (λ (l : List (List ℕ)). first.connected || (has_some (made_by Near first.near) || has_some l)) (sym (far_made first.far it.far_take.new.far it.far_take.same.far))
 
 idle : (most : ℕ) (first : Pair) → Alike most first → first.connected ≡ false → (made_by Near first.near ≡ []) × (made_by Far first.far ≡ [])
 idle most first it off = nothing_made (made_by Near first.near) (made_by Far first.far) (or_false first.connected (any_made first) (linked_if_made most first it) off)
 
 alike_settled : (most : ℕ) (first : Pair) → 1 ≤ most → Stands first → Alike most first → Settled first
 alike_settled most first some stands it = record {
-  near_taken = taken_all first.near first.near it.p1.near most some stands.near.within (same_self first.near) it.s1.near (near_taken most first it.p1 it.m1);
-  far_taken = taken_all first.far it.p1.far it.p2.far most some stands.far.within it.s1.far it.s2.far (far_taken most it.p1 it.p2 it.m2);
-  near_pushed = pushed_all (made_by Near first.near) (made_by Near it.p3.near) first.near.pushed it.p3.near.pushed it.p4.near.pushed most first.connected it.p3.connected some stands.up.pushed
-      (λ off. (idle most first it off).0) (near_made first.near it.p3.near it.s3.near) it.s3.near.pushed it.s4.near.pushed it.s3.linked (near_pushed most it.p3 it.p4 it.m4);
-  far_pushed = pushed_all (made_by Far first.far) (made_by Far it.p5.far) first.far.pushed it.p5.far.pushed it.p6.far.pushed most first.connected it.p5.connected some stands.down.pushed
-      (λ off. (idle most first it off).1) (far_made first.far it.p5.far it.s5.far) it.s5.far.pushed it.s6.far.pushed it.s5.linked (far_pushed most it.p5 it.p6 it.m6);
-  near_pulled = pulled_all first.far.pushed first.near.pulled it.p6.far.pushed it.p6.near.pulled it.p7.near.pulled most some stands.down.pulled it.s6.far.pushed it.s6.near.pulled it.s7.near.pulled (near_pulled most it.p6 it.p7 it.m7);
-  far_pulled = pulled_all first.near.pushed first.far.pulled it.p4.near.pushed it.p4.far.pulled it.p5.far.pulled most some stands.up.pulled it.s4.near.pushed it.s4.far.pulled it.s5.far.pulled (far_pulled most it.p4 it.p5 it.m5);
+  near_taken = taken_all first.near first.near it.near_take.new.near most some stands.near.within (same_self first.near) it.near_take.same.near (near_taken most first it.near_take.new it.near_take.moved);
+  far_taken = taken_all first.far it.near_take.new.far it.far_take.new.far most some stands.far.within it.near_take.same.far it.far_take.same.far (far_taken most it.near_take.new it.far_take.new it.far_take.moved);
+  near_pushed = pushed_all (made_by Near first.near) (made_by Near it.link.new.near) first.near.pushed it.link.new.near.pushed it.up_push.new.near.pushed most first.connected it.link.new.connected some stands.up.pushed
+      (λ off. (idle most first it off).0) (near_made first.near it.link.new.near it.link.same.near) it.link.same.near.pushed it.up_push.same.near.pushed it.link.same.linked (near_pushed most it.link.new it.up_push.new it.up_push.moved);
+  far_pushed = pushed_all (made_by Far first.far) (made_by Far it.up_pull.new.far) first.far.pushed it.up_pull.new.far.pushed it.down_push.new.far.pushed most first.connected it.up_pull.new.connected some stands.down.pushed
+      (λ off. (idle most first it off).1) (far_made first.far it.up_pull.new.far it.up_pull.same.far) it.up_pull.same.far.pushed it.down_push.same.far.pushed it.up_pull.same.linked (far_pushed most it.up_pull.new it.down_push.new it.down_push.moved);
+  near_pulled = pulled_all first.far.pushed first.near.pulled it.down_push.new.far.pushed it.down_push.new.near.pulled it.down_pull.new.near.pulled most some stands.down.pulled it.down_push.same.far.pushed it.down_push.same.near.pulled it.down_pull.same.near.pulled (near_pulled most it.down_push.new it.down_pull.new it.down_pull.moved);
+  far_pulled = pulled_all first.near.pushed first.far.pulled it.up_push.new.near.pushed it.up_push.new.far.pulled it.up_pull.new.far.pulled most some stands.up.pulled it.up_push.same.near.pushed it.up_push.same.far.pulled it.up_pull.same.far.pulled (far_pulled most it.up_push.new it.up_pull.new it.up_pull.moved);
 }
   where
     same_self : (half : Half) → SameHalf half half
@@ -206,78 +198,64 @@ alike_settled most first some stands it = record {
 -- ---- the round
 
 -- its moves behind each of the first six
-abbrev rest6 : ℕ → List Move
-rest6 most = Pull Down most ∷ []
+abbrev behind_down_push : ℕ → List Move
+behind_down_push most = Pull Down most ∷ []
 
-abbrev rest5 : ℕ → List Move
-rest5 most = Push Down most ∷ rest6 most
+abbrev behind_up_pull : ℕ → List Move
+behind_up_pull most = Push Down most ∷ behind_down_push most
 
-abbrev rest4 : ℕ → List Move
-rest4 most = Pull Up most ∷ rest5 most
+abbrev behind_up_push : ℕ → List Move
+behind_up_push most = Pull Up most ∷ behind_up_pull most
 
-abbrev rest3 : ℕ → List Move
-rest3 most = Push Up most ∷ rest4 most
+abbrev behind_link : ℕ → List Move
+behind_link most = Push Up most ∷ behind_up_push most
 
-abbrev rest2 : ℕ → List Move
-rest2 most = ConnectIfMade ∷ rest3 most
+abbrev behind_far_take : ℕ → List Move
+behind_far_take most = ConnectIfMade ∷ behind_link most
 
-abbrev rest1 : ℕ → List Move
-rest1 most = Take Far most ∷ rest2 most
+abbrev behind_near_take : ℕ → List Move
+behind_near_take most = Take Far most ∷ behind_far_take most
 
 grew_back : (end last first : Pair) → last ≡ end → last ≡ first → Grew end first
 grew_back end last first is same = subst (λ (p : Pair). Grew p first) (sym (sym is ∙ same)) (grew_refl first)
 
 pub round_alike : (most : ℕ) (first last : Pair) → Stands first → MovesAll (round most) first last None → last ≡ first → Alike most first
 round_alike most first last stands moved same =
-    let a = parts (Take Near most) (rest1 most) first last moved in
-    let b = parts (Take Far most) (rest2 most) a.between last a.later in
-    let c = parts ConnectIfMade (rest3 most) b.between last b.later in
-    let d = parts (Push Up most) (rest4 most) c.between last c.later in
-    let e = parts (Pull Up most) (rest5 most) d.between last d.later in
-    let f = parts (Push Down most) (rest6 most) e.between last e.later in
-    let g = parts (Pull Down most) [] f.between last f.later in
-    let a_came = came_quiet (Take Near most) first a.between None tt stands a.one in
-    let b_came = came_quiet (Take Far most) a.between b.between None tt a_came.after b.one in
-    let c_came = came_quiet ConnectIfMade b.between c.between None tt b_came.after c.one in
-    let d_came = came_quiet (Push Up most) c.between d.between None tt c_came.after d.one in
-    let e_came = came_quiet (Pull Up most) d.between e.between None tt d_came.after e.one in
-    let f_came = came_quiet (Push Down most) e.between f.between None tt e_came.after f.one in
-    let g_came = came_quiet (Pull Down most) f.between g.between None tt f_came.after g.one in
-    let back7 = grew_back g.between last first g.later.0 same in
-    let back6 = grew_trans f.between g.between first g_came.grew back7 in
-    let back5 = grew_trans e.between f.between first f_came.grew back6 in
-    let back4 = grew_trans d.between e.between first e_came.grew back5 in
-    let back3 = grew_trans c.between d.between first d_came.grew back4 in
-    let back2 = grew_trans b.between c.between first c_came.grew back3 in
-    let back1 = grew_trans a.between b.between first b_came.grew back2 in
-    let on2 = grew_trans first a.between b.between a_came.grew b_came.grew in
-    let on3 = grew_trans first b.between c.between on2 c_came.grew in
-    let on4 = grew_trans first c.between d.between on3 d_came.grew in
-    let on5 = grew_trans first d.between e.between on4 e_came.grew in
-    let on6 = grew_trans first e.between f.between on5 f_came.grew in
-    let on7 = grew_trans first f.between g.between on6 g_came.grew in
+    let near_take = parts (Take Near most) (behind_near_take most) first last moved in
+    let far_take = parts (Take Far most) (behind_far_take most) near_take.between last near_take.later in
+    let link = parts ConnectIfMade (behind_link most) far_take.between last far_take.later in
+    let up_push = parts (Push Up most) (behind_up_push most) link.between last link.later in
+    let up_pull = parts (Pull Up most) (behind_up_pull most) up_push.between last up_push.later in
+    let down_push = parts (Push Down most) (behind_down_push most) up_pull.between last up_pull.later in
+    let down_pull = parts (Pull Down most) [] down_push.between last down_push.later in
+    let near_take_came = came_quiet (Take Near most) first near_take.between None tt stands near_take.one in
+    let far_take_came = came_quiet (Take Far most) near_take.between far_take.between None tt near_take_came.after far_take.one in
+    let link_came = came_quiet ConnectIfMade far_take.between link.between None tt far_take_came.after link.one in
+    let up_push_came = came_quiet (Push Up most) link.between up_push.between None tt link_came.after up_push.one in
+    let up_pull_came = came_quiet (Pull Up most) up_push.between up_pull.between None tt up_push_came.after up_pull.one in
+    let down_push_came = came_quiet (Push Down most) up_pull.between down_push.between None tt up_pull_came.after down_push.one in
+    let down_pull_came = came_quiet (Pull Down most) down_push.between down_pull.between None tt down_push_came.after down_pull.one in
+    let back_from_down_pull = grew_back down_pull.between last first down_pull.later.0 same in
+    let back_from_down_push = grew_trans down_push.between down_pull.between first down_pull_came.grew back_from_down_pull in
+    let back_from_up_pull = grew_trans up_pull.between down_push.between first down_push_came.grew back_from_down_push in
+    let back_from_up_push = grew_trans up_push.between up_pull.between first up_pull_came.grew back_from_up_pull in
+    let back_from_link = grew_trans link.between up_push.between first up_push_came.grew back_from_up_push in
+    let back_from_far_take = grew_trans far_take.between link.between first link_came.grew back_from_link in
+    let back_from_near_take = grew_trans near_take.between far_take.between first far_take_came.grew back_from_far_take in
+    let up_to_far_take = grew_trans first near_take.between far_take.between near_take_came.grew far_take_came.grew in
+    let up_to_link = grew_trans first far_take.between link.between up_to_far_take link_came.grew in
+    let up_to_up_push = grew_trans first link.between up_push.between up_to_link up_push_came.grew in
+    let up_to_up_pull = grew_trans first up_push.between up_pull.between up_to_up_push up_pull_came.grew in
+    let up_to_down_push = grew_trans first up_pull.between down_push.between up_to_up_pull down_push_came.grew in
+    let up_to_down_pull = grew_trans first down_push.between down_pull.between up_to_down_push down_pull_came.grew in
     record {
-      p1 = a.between;
-      p2 = b.between;
-      p3 = c.between;
-      p4 = d.between;
-      p5 = e.between;
-      p6 = f.between;
-      p7 = g.between;
-      m1 = a.one;
-      m2 = b.one;
-      m3 = c.one;
-      m4 = d.one;
-      m5 = e.one;
-      m6 = f.one;
-      m7 = g.one;
-      s1 = same_pair first a.between a_came.grew back1;
-      s2 = same_pair first b.between on2 back2;
-      s3 = same_pair first c.between on3 back3;
-      s4 = same_pair first d.between on4 back4;
-      s5 = same_pair first e.between on5 back5;
-      s6 = same_pair first f.between on6 back6;
-      s7 = same_pair first g.between on7 back7;
+      near_take = record { new = near_take.between; moved = near_take.one; same = same_pair first near_take.between near_take_came.grew back_from_near_take };
+      far_take = record { new = far_take.between; moved = far_take.one; same = same_pair first far_take.between up_to_far_take back_from_far_take };
+      link = record { new = link.between; moved = link.one; same = same_pair first link.between up_to_link back_from_link };
+      up_push = record { new = up_push.between; moved = up_push.one; same = same_pair first up_push.between up_to_up_push back_from_up_push };
+      up_pull = record { new = up_pull.between; moved = up_pull.one; same = same_pair first up_pull.between up_to_up_pull back_from_up_pull };
+      down_push = record { new = down_push.between; moved = down_push.one; same = same_pair first down_push.between up_to_down_push back_from_down_push };
+      down_pull = record { new = down_pull.between; moved = down_pull.one; same = same_pair first down_pull.between up_to_down_pull back_from_down_pull };
     }
 
 pub rounds_settled : (count most : ℕ) (old new : Pair) → 1 ≤ most → Stands old → Rounds count most old new None → Settled new
