@@ -1,0 +1,6 @@
+mod HearingLemmas
+mod OrderLemmas
+mod PassingLemmas
+mod RowLemmas
+mod TakingLemmas
+mod WaitingLemmas
