@@ -1,4 +1,5 @@
 mod HearingLemmas
+mod LinkLemmas
 mod OrderLemmas
 mod PassingLemmas
 mod RowLemmas

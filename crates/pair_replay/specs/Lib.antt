@@ -1,5 +1,6 @@
 pub mod Hearings
 pub mod Laws
+pub mod Links
 pub mod Messages
 pub mod Outcome
 pub mod Passings
