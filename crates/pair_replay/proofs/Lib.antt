@@ -1,7 +1,9 @@
 mod HearingLemmas
 mod LinkLemmas
+mod MoveLemmas
 mod OrderLemmas
 mod PassingLemmas
 mod RowLemmas
+mod StandingLemmas
 mod TakingLemmas
 mod WaitingLemmas

@@ -5,3 +5,4 @@ pub mod Messages
 pub mod Outcome
 pub mod Passings
 pub mod Proxies
+pub mod Standing
