@@ -1,4 +1,5 @@
 mod HearingLemmas
+mod LineLemmas
 mod LinkLemmas
 mod MoveLemmas
 mod OrderLemmas

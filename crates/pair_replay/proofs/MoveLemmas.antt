@@ -20,7 +20,8 @@ use Rattle.replay_model.specs.declared.ends.Fault.{Fault}
 use Rattle.replay_model.specs.declared.ends.Refusal.{Refusal}
 use Rattle.pair_replay.specs.Laws.{OrderLaws}
 use Rattle.pair_replay.specs.Messages.{AreMessages, made_of}
-use Rattle.pair_replay.proofs.OrderLemmas.{frames_append, of_way_append, own_not_heard, heard_not_made, refusal_known, tracked_more}
+use Rattle.pair_replay.specs.Standing.{has_bytes}
+use Rattle.pair_replay.proofs.OrderLemmas.{frames_append, of_way_append, own_not_heard, heard_not_own, heard_not_made, refusal_known, tracked_more}
 use Rattle.pair_replay.proofs.RowLemmas.{frame_long, whole_more, whole_none}
 
 -- ---- one move and many
@@ -48,6 +49,16 @@ own_keeps_given side order (message ∷ messages) = by_refusal (refusal order (o
   where
     by_refusal : (r : Option Refusal) → of_way (heard_way side) (pass_all (own_way side) (order ++ (own_way side, message) ∷ []) messages).order ≡ of_way (heard_way side) order
         → of_way (heard_way side) (or_refused r order (pass_all (own_way side) (order ++ (own_way side, message) ∷ []) messages)).order ≡ of_way (heard_way side) order
+    by_refusal None e = e
+    by_refusal (Some cause) e = refl
+
+-- messages of the other proxy are not taken from the own peer
+pub heard_keeps_taken : (side : Side) (order : List (Way × List ℕ)) (messages : List (List ℕ)) → of_way (own_way side) (pass_all (heard_way side) order messages).order ≡ of_way (own_way side) order
+heard_keeps_taken side order [] = refl
+heard_keeps_taken side order (message ∷ messages) = by_refusal (refusal order (heard_way side) message) (heard_keeps_taken side (order ++ (heard_way side, message) ∷ []) messages ∙ heard_not_own side order message)
+  where
+    by_refusal : (r : Option Refusal) → of_way (own_way side) (pass_all (heard_way side) (order ++ (heard_way side, message) ∷ []) messages).order ≡ of_way (own_way side) order
+        → of_way (own_way side) (or_refused r order (pass_all (heard_way side) (order ++ (heard_way side, message) ∷ []) messages)).order ≡ of_way (own_way side) order
     by_refusal None e = e
     by_refusal (Some cause) e = refl
 
@@ -132,3 +143,12 @@ waits_grown (message ∷ messages) more count all fits waits = ⊎_elim
     let found = whole_more message messages count long in
     absurd cc)
     (cases_lt count (length (frame_of message)))
+
+-- there are bytes of frames where there are messages
+pub bytes_some : (messages : List (List ℕ)) → AreMessages messages → has_bytes (frames_of messages) ≡ has_some messages
+bytes_some [] all = refl
+bytes_some (message ∷ messages) all = long_bytes (frames_of (message ∷ messages)) (omega (arith, length-append (frame_of message) (frames_of messages), frame_long message all.0))
+  where
+    long_bytes : (bytes : List ℕ) → 4 ≤ length bytes → has_bytes bytes ≡ true
+    long_bytes [] long = absurd (omega arith)
+    long_bytes (byte ∷ bytes) long = refl
