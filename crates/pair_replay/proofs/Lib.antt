@@ -1,10 +1,13 @@
+mod ChainLemmas
 mod HearingLemmas
 mod LineLemmas
 mod LinkLemmas
 mod MoveLemmas
 mod OrderLemmas
 mod PassingLemmas
+mod RoundLemmas
 mod RowLemmas
+mod SettleLemmas
 mod StandingLemmas
 mod TakingLemmas
 mod WaitingLemmas

@@ -236,12 +236,11 @@ half_same : (side : Side) (pair : Pair) → with_half side (half_of side pair) p
 half_same Near pair = refl
 half_same Far pair = refl
 
-pub pull_idle : (side : Side) (most : ℕ) (run : Run) (pair : Pair) (line : ℕ → Line) → Stands run pair line → (half_of side pair).pulled ≡ min (half_of (other side) pair).pushed ((half_of side pair).pulled + most)
-    → Moves (Pull (heard_dir side) most) pair pair None
-pull_idle side most run pair line stands idle =
+pub pull_idle : (side : Side) (most : ℕ) (proxy : Proxy) (pair : Pair) → Hearing side proxy (half_of side pair) (made_by (other side) (half_of (other side) pair))
+    → (half_of side pair).pulled ≡ min (half_of (other side) pair).pushed ((half_of side pair).pulled + most) → Moves (Pull (heard_dir side) most) pair pair None
+pull_idle side most proxy pair heard idle =
     let half = half_of side pair in
-    let at = stands.at side in
-    let now : hearing side pair half.pulled ≡ record { order = half.order; refused = None } = heard_to_now side (proxy_of side run) half (made_by (other side) (half_of (other side) pair)) at.hearing in
+    let now : hearing side pair half.pulled ≡ record { order = half.order; refused = None } = heard_to_now side proxy half (made_by (other side) (half_of (other side) pair)) heard in
     pulls_move side most pair pair None (record {
       upto = half.pulled;
       ahead = omega arith;
@@ -257,7 +256,7 @@ not_connected side most run line closed pair stands =
     let pushed : (half_of (other side) pair).pushed ≡ 0 = (at_other side run pair line stands).idle none in
     record {
       now = pair;
-      did = one_move (Pull (heard_dir side) most) pair pair None (pull_idle side most run pair line stands (omega (arith, pushed, (stands.at side).within)));
+      did = one_move (Pull (heard_dir side) most) pair pair None (pull_idle side most (proxy_of side run) pair (stands.at side).hearing (omega (arith, pushed, (stands.at side).within)));
       stands = stands;
     }
 

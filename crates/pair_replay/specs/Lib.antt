@@ -5,4 +5,5 @@ pub mod Messages
 pub mod Outcome
 pub mod Passings
 pub mod Proxies
+pub mod Rounding
 pub mod Standing

@@ -9,6 +9,7 @@ mod passing;
 mod proxy;
 mod replayed;
 mod replaying;
+mod rounds;
 mod runs;
 mod taking;
 mod waiting;
