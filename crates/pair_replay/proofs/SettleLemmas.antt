@@ -341,3 +341,8 @@ pub connect_ends : (result : Result (Unit {0}) Stop) (most : ℕ) (old new : Run
 connect_ends result most old new before after none goes =
     subst (λ (n : ℕ). IfStops result (GoesBy (Settles n) old new before after)) (sym none)
     (stops_same result (Goes (ConnectIfMade ∷ []) old new before after) (GoesBy (Settles 0) old new before after) (λ stop it. connect_settles old new before after stop it) goes)
+
+pub settles_then : (result : Result (Unit {0}) Stop) (most : ℕ) (old mid new : Run) (before between after : ℕ → Line) → GoesBy (Leads most) old mid before between None → IfStops result (GoesBy (Settles most) mid new between after)
+    → IfStops result (GoesBy (Settles most) old new before after)
+settles_then result most old mid new before between after goes settles =
+    stops_same result (GoesBy (Settles most) mid new between after) (GoesBy (Settles most) old new before after) (λ stop it. leads_then most old mid new before between after stop goes it) settles
