@@ -5,6 +5,7 @@ mod LinkLemmas
 mod MoveLemmas
 mod OrderLemmas
 mod PassingLemmas
+mod PlayLemmas
 mod RoundLemmas
 mod RowLemmas
 mod SettleLemmas

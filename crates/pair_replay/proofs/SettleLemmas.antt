@@ -192,12 +192,6 @@ pulls_differ laws most old new pair now before after sized all some was is moves
     made_long Near Far new.near now.near now.far now.connected near_now, made_long Far Near new.far now.far now.near now.connected far_now,
     ap (λ p. length (frame_bytes Near p.near)) same, ap (λ p. length (frame_bytes Far p.far)) same))
 
-true_false : true ≡ false → ⊥
-true_false e = cc
-
-some_none : {X : Type 0} (x : X) → Some x ≡ None → ⊥
-some_none x e = cc
-
 -- ---- a round that changes nothing
 
 -- no move has room
@@ -276,71 +270,7 @@ all_still most run pair line all none stands =
       rounds = (subst (λ (p : Pair). MovesAll (round most) pair p None) (linked_by run pair line pair.connected refl stands near_pushed far_pushed) (still_round most run pair near.taking far.taking near.hearing far.hearing still), λ _. refl);
     }
 
--- ---- rounds of no bytes
-
-nothing_still : (run : Run) (pair : Pair) (line : ℕ → Line) → Stands run pair line → Still 0 pair
-nothing_still run pair line stands =
-    let near = stands.at Near in
-    let far = stands.at Far in
-    record {
-      near_taken = omega (arith, near.taking.inside);
-      far_taken = omega (arith, far.taking.inside);
-      near_pushed = omega (arith, near.inside);
-      far_pushed = omega (arith, far.inside);
-      near_pulled = omega (arith, near.within);
-      far_pulled = omega (arith, far.within);
-    }
-
-still_linked : (run : Run) (pair : Pair) (line : ℕ → Line) → Stands run pair line → MovesAll (round 0) pair (linked pair) None
-still_linked run pair line stands =
-    let near = stands.at Near in
-    let far = stands.at Far in
-    still_round 0 run pair near.taking far.taking near.hearing far.hearing (nothing_still run pair line stands)
-
-linked_twice : (run : Run) (pair : Pair) (line : ℕ → Line) → Stands run pair line → (linked pair).connected ≡ true → MovesAll (round 0) (linked pair) (linked pair) None
-linked_twice run pair line stands up =
-    let near = stands.at Near in
-    let far = stands.at Far in
-    let still = nothing_still run pair line stands in
-    let again : linked (linked pair) ≡ linked pair = ap (λ c. record pair { connected = c }) (ap (λ c. c || any_made pair) up ∙ sym up) in
-    subst (λ (p : Pair). MovesAll (round 0) (linked pair) p None) again
-    (still_round 0 run (linked pair) near.taking far.taking near.hearing far.hearing (record {
-      near_taken = still.near_taken;
-      far_taken = still.far_taken;
-      near_pushed = still.near_pushed;
-      far_pushed = still.far_pushed;
-      near_pulled = still.near_pulled;
-      far_pulled = still.far_pulled;
-    }))
-
--- only the connection is made
-nothing_settles : (run : Run) (pair : Pair) (line : ℕ → Line) (connected any : Bool) → pair.connected ≡ connected → any_made pair ≡ any → Stands run pair line → Settles 0 pair (linked pair) None
-nothing_settles run pair line true any up made stands =
-    let same : linked pair ≡ pair = ap (λ c. record pair { connected = c }) (ap (λ c. c || any_made pair) up ∙ sym up) in
-    record { count = zero; rounds = (still_linked run pair line stands, λ _. same) }
-nothing_settles run pair line false false up made stands =
-    let same : linked pair ≡ pair = ap (λ c. record pair { connected = c }) (ap (λ c. c || any_made pair) up ∙ made ∙ sym up) in
-    record { count = zero; rounds = (still_linked run pair line stands, λ _. same) }
-nothing_settles run pair line false true up made stands =
-    let now : (linked pair).connected ≡ true = ap (λ c. c || any_made pair) up ∙ made in
-    let differs : linked pair ≢ pair = λ same. absurd (true_false (sym now ∙ ap (λ p. p.connected) same ∙ up)) in
-    record { count = suc zero; rounds = (linked pair, still_linked run pair line stands, differs, (linked_twice run pair line stands now, λ _. refl)) }
-
--- a call that makes the connection, as rounds of no bytes
-pub connect_settles : (old new : Run) (before after : ℕ → Line) (stop : Option Fault) → Goes (ConnectIfMade ∷ []) old new before after stop → GoesBy (Settles 0) old new before after stop
-connect_settles old new before after stop goes pair stands =
-    let it = goes pair stands in
-    let settles : Settles 0 pair it.now stop = ⊎_elim
-    (λ met. absurd (some_none met.0 met.1.1))
-    (λ done. subst (λ (s : Option Fault). Settles 0 pair it.now s) (sym done.2.1)
-    (subst (λ (p : Pair). Settles 0 pair p None) (sym (done.2.0 ∙ done.1.0)) (nothing_settles old pair before pair.connected (any_made pair) refl refl stands)))
-    it.did in
-    record { now = it.now; did = settles; stands = it.stands }
-
-pub connect_ends : (result : Result (Unit {0}) Stop) (most : ℕ) (old new : Run) (before after : ℕ → Line) → most ≡ 0 → IfStops result (Goes (ConnectIfMade ∷ []) old new before after) → IfStops result (GoesBy (Settles most) old new before after)
-connect_ends result most old new before after none goes =
-    subst (λ (n : ℕ). IfStops result (GoesBy (Settles n) old new before after)) (sym none)
-    (stops_same result (Goes (ConnectIfMade ∷ []) old new before after) (GoesBy (Settles 0) old new before after) (λ stop it. connect_settles old new before after stop it) goes)
+-- ---- rounds behind others
 
 pub settles_then : (result : Result (Unit {0}) Stop) (most : ℕ) (old mid new : Run) (before between after : ℕ → Line) → GoesBy (Leads most) old mid before between None → IfStops result (GoesBy (Settles most) mid new between after)
     → IfStops result (GoesBy (Settles most) old new before after)

@@ -4,6 +4,7 @@ pub mod Links
 pub mod Messages
 pub mod Outcome
 pub mod Passings
+pub mod Playing
 pub mod Proxies
 pub mod Rounding
 pub mod Standing

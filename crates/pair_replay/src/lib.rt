@@ -4,6 +4,7 @@
 mod halts;
 mod hearing;
 mod laws;
+mod lines;
 mod linking;
 mod passing;
 mod proxy;

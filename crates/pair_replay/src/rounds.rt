@@ -22,12 +22,10 @@ impl Run {
         piece: &mut [u8],
     ) -> Result<(), Stop>
         requires room { 0 < length piece.old }
+        requires sized { 0 < most }
         requires ready { CanGo self.old (L.line line.old) }
         ensures { IfStops result (GoesBy (Settles most) self.old self.new (L.line line.old) (L.line line.new)) }
     {
-        if most == 0 {
-            return self.connect_made(line);
-        }
         match self.take_rounds(most, line, piece) {
             Ok(()) => self.pull_rounds(most, line, piece),
             Err(stop) => Err(stop),

@@ -1,12 +1,8 @@
 use Rattle.std.proofs.Common.{◌∙◌, sym, None, Err, arith}
 use Rattle.pair_replay.specs.Rounding.{Leads}
 use Rattle.pair_replay.proofs.ChainLemmas.{can_after}
-use Rattle.pair_replay.proofs.SettleLemmas.{leads_to_fault, settles_then, connect_ends}
+use Rattle.pair_replay.proofs.SettleLemmas.{leads_to_fault, settles_then}
 use Rattle.pair_replay.proofs.runs.Run.settle.Goals as goal
-
-pub returns-then-most-eq0 : goal.returns-then-most-eq0
-returns-then-most-eq0 g c =
-    connect_ends c.connect_made.result c.args.most c.args.self.now c.connect_made.new.self (g.L.LinkStore.line c.args.line.now) (g.L.LinkStore.line c.connect_made.new.line) c.if-most-eq0.true c.connect_made.ensures
 
 pub pull_rounds-requires-clause-ready : goal.pull_rounds-requires-clause-ready
 pull_rounds-requires-clause-ready g c =
