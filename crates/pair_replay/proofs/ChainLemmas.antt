@@ -35,6 +35,7 @@ goes_then before after old mid new first between last result done goes = by_resu
         let one = done pair stands in
         let two = goes one.now one.stands in
         record { now = two.now; did = moves_then before after pair one.now two.now stop one.did two.did; stands = two.stands }
+
     by_result : (r : Result (Unit {0}) Stop) → IfStops r (Goes after mid new between last) → IfStops r (Goes (before ++ after) old new first last)
     by_result (Ok ok) goes = then_goes None goes
     by_result (Err (stops.Met fault)) goes = then_goes (Some fault) goes

@@ -168,14 +168,14 @@ heard_ends side order bytes row proxy waits empty before =
       passed = subst (λ (p : Passage). PassedTo side proxy.passing p None None) (sym passage) (record { shows = before.shows; knows = λ _. before.knows; met = refl });
       place = before.place ∙ ap (λ p. heard_bytes side p.order) (sym passage);
       all = λ _. record {
-          later = before.later;
-          behind = before.behind;
-          split = before.split ∙ ap (λ ms. ms ++ before.later.messages) (sym all);
-          waits = none;
-          count = before.count ∙ ap (λ ms. length (frames_of ms) + length proxy.reader.front) (sym all);
-          place = before.reached ∙ sym before.place;
-          messages = empty;
-        };
+        later = before.later;
+        behind = before.behind;
+        split = before.split ∙ ap (λ ms. ms ++ before.later.messages) (sym all);
+        waits = none;
+        count = before.count ∙ ap (λ ms. length (frames_of ms) + length proxy.reader.front) (sym all);
+        place = before.reached ∙ sym before.place;
+        messages = empty;
+      };
     }
 
 -- ---- the loop

@@ -71,12 +71,12 @@ connect_moves run before after closed became pair stands =
       now = now;
       did = one_move Connect pair now None (refl, refl);
       stands = record {
-          at = by_side pair stands;
-          connected = refl;
-          tells = tells_made now after refl (became.here ∙ sym (ap (λ l. record { was_opened = true; is_up = true; up = l; down = lane (frame_bytes Far pair.far) pair.far.pushed pair.near.pulled }) up
-              ∙ ap (λ l. record { was_opened = true; is_up = true; up = fresh_lane; down = l }) down))
-              (λ connection other. became.others connection other ∙ stands.tells.others connection other);
-        };
+        at = by_side pair stands;
+        connected = refl;
+        tells = tells_made now after refl (became.here ∙ sym (ap (λ l. record { was_opened = true; is_up = true; up = l; down = lane (frame_bytes Far pair.far) pair.far.pushed pair.near.pulled }) up
+            ∙ ap (λ l. record { was_opened = true; is_up = true; up = fresh_lane; down = l }) down))
+            (λ connection other. became.others connection other ∙ stands.tells.others connection other);
+      };
     }
   where
     by_side : (pair : Pair) → Stands run pair before → (side : Side) → StandsAt side (other side) (proxy_of side (record run { connected = true })) (half_of side (record pair { connected = true })) (half_of (other side) (record pair { connected = true })) true
@@ -211,10 +211,10 @@ push_moves side run new most before after up pushes pair stands =
       now = with_half side now pair;
       did = one_move (Push (own_dir side) most) pair (with_half side now pair) None (push_move side most pair made);
       stands = record {
-          at = at_after side run pair proxy now own others;
-          connected = connected_after side run pair proxy now stands.connected;
-          tells = tells;
-        };
+        at = at_after side run pair proxy now own others;
+        connected = connected_after side run pair proxy now stands.connected;
+        tells = tells;
+      };
     })
 
 pub push_ends : (told : Direction) (side : Side) (run : Run) (new : Proxy) (most : ℕ) (before after : ℕ → Line) (done : Result (Unit {0}) AllocError) (result : Result (Unit {0}) Stop) → told ≡ own_dir side → run.connected ≡ true → result ≡ or_memory done
@@ -299,27 +299,26 @@ line_pulled Far pair now pushed made =
     sym (ap (λ ms. record { was_opened = true; is_up = true; up = lane (frame_bytes Near pair.near) pair.near.pushed now.pulled; down = lane (frames_of ms) now.pushed pair.near.pulled }) made
     ∙ ap (λ n. record { was_opened = true; is_up = true; up = lane (frame_bytes Near pair.near) pair.near.pushed now.pulled; down = lane (frame_bytes Far pair.far) n pair.near.pulled }) pushed)
 
-pub pull_moves : (laws : OrderLaws) (side : Side) (run : Run) (new : Proxy) (most upto : ℕ) (before after : ℕ → Line) (refused : Option Refusal) → run.connected ≡ true
-    → upto ≡ min (proxy_of (other side) run).pushed ((proxy_of side run).pulled + most) → PullsUpTo (heard_dir side) upto (proxy_of side run) new before after refused
-    → Goes (Pull (heard_dir side) most ∷ []) run (with_proxy side new run) before after (option_map (Frame side) refused)
-pull_moves laws side run new most upto before after refused up is pulls pair stands =
-    let made : pair.connected ≡ true = sym stands.connected ∙ up in
+-- what was pulled, as a move of both proxies
+pulled_moves : (laws : OrderLaws) (side : Side) (run : Run) (new : Proxy) (most upto : ℕ) (before after : ℕ → Line) (refused : Option Refusal) (pair : Pair) (stands : Stands run pair before)
+    → pair.connected ≡ true → upto ≡ min (half_of (other side) pair).pushed ((half_of side pair).pulled + most) → SameTaken (proxy_of side run) new
+    → PulledTo (heard_dir side) side (half_of side pair) (made_by (other side) (half_of (other side) pair)) (half_of (other side) pair).pushed upto new before after refused
+    → MovedTo (MovesAll (Pull (heard_dir side) most ∷ [])) pair (with_proxy side new run) after (option_map (Frame side) refused)
+pulled_moves laws side run new most upto before after refused pair stands made is kept it =
     let half = half_of side pair in
     let source = half_of (other side) pair in
     let at = stands.at side in
     let beside = at_other side run pair before stands in
     let others = made_by (other side) source in
-    let it = pulls.pulled side half others source.pushed at.shows at.knows (reads_at side run pair before made stands) (omega (arith, is, at.hearing.pulled, at.within, beside.pushed)) (omega (arith, is, beside.pushed)) in
     let passage = heard_to side half others it.reached in
     let now : Half = record half { pulled = it.reached; order = passage.order } in
     let left = drop (length (given_by side half)) (whole_in others it.reached) in
-    let same : made_by side now ≡ made_by side half = made_is side now ∙ heard_keeps_made laws side half.order _ left at.knows.tracked ∙ sym (made_is side half) in
-    let taken = heard_keeps_taken side half.order left in
+    let same : made_by side now ≡ made_by side half = made_is side now ∙ heard_keeps_made laws side half.order (proxy_of side run).passing.objects.tracked left at.knows.tracked ∙ sym (made_is side half) in
     let move : Pulls side most pair (with_half side now pair) refused = record {
       upto = it.reached;
       ahead = it.ahead;
-      within = omega (arith, it.within, is, at.hearing.pulled, beside.pushed);
-      all = λ none. it.all none ∙ is ∙ ap (λ n. min n ((proxy_of side run).pulled + most)) beside.pushed ∙ ap (λ n. min source.pushed (n + most)) at.hearing.pulled;
+      within = omega (arith, it.within, is);
+      all = λ none. it.all none ∙ is;
       came = refl;
       judged = it.heard.passed.met ∙ sym (no_size passage.refused);
     } in
@@ -337,17 +336,17 @@ pull_moves laws side run new most upto before after refused up is pulls pair sta
                   shows = it.heard.passed.shows;
                   knows = it.heard.passed.knows none;
                   taking = record {
-                      wire = pulls.same.wire ∙ at.taking.wire;
-                      taken = pulls.same.taken ∙ at.taking.taken;
-                      inside = at.taking.inside;
-                      framer = pulls.same.framer ∙ at.taking.framer;
-                      fine = at.taking.fine;
-                      took = taken ∙ at.taking.took;
-                    };
+                    wire = kept.wire ∙ at.taking.wire;
+                    taken = kept.taken ∙ at.taking.taken;
+                    inside = at.taking.inside;
+                    framer = kept.framer ∙ at.taking.framer;
+                    fine = at.taking.fine;
+                    took = heard_keeps_taken side half.order left ∙ at.taking.took;
+                  };
                   hearing = it.heard.hearing none;
-                  pushed = pulls.same.pushed ∙ at.pushed;
+                  pushed = kept.pushed ∙ at.pushed;
                   inside = omega (arith, at.inside, ap (λ ms. length (frames_of ms)) same);
-                  within = omega (arith, it.within, is, beside.pushed);
+                  within = omega (arith, it.within, is);
                   idle = λ closed. at.idle closed;
                 })
                 (source_moved (other side) side (proxy_of (other side) run) source half now pair.connected [] (same ∙ sym (append-nil (made_by side half))) (made_whole side new now it.heard.passed.shows) (omega arith) beside);
@@ -361,6 +360,19 @@ pull_moves laws side run new most upto before after refused up is pulls pair sta
             tells = tells;
           });
     }
+
+pub pull_moves : (laws : OrderLaws) (side : Side) (run : Run) (new : Proxy) (most upto : ℕ) (before after : ℕ → Line) (refused : Option Refusal) → run.connected ≡ true
+    → upto ≡ min (proxy_of (other side) run).pushed ((proxy_of side run).pulled + most) → PullsUpTo (heard_dir side) upto (proxy_of side run) new before after refused
+    → Goes (Pull (heard_dir side) most ∷ []) run (with_proxy side new run) before after (option_map (Frame side) refused)
+pull_moves laws side run new most upto before after refused up is pulls pair stands =
+    let made : pair.connected ≡ true = sym stands.connected ∙ up in
+    let half = half_of side pair in
+    let source = half_of (other side) pair in
+    let at = stands.at side in
+    let beside = at_other side run pair before stands in
+    let reach : upto ≡ min source.pushed (half.pulled + most) = is ∙ ap (λ n. min n ((proxy_of side run).pulled + most)) beside.pushed ∙ ap (λ n. min source.pushed (n + most)) at.hearing.pulled in
+    pulled_moves laws side run new most upto before after refused pair stands made reach pulls.same
+    (pulls.pulled side half (made_by (other side) source) source.pushed at.shows at.knows (reads_at side run pair before made stands) (omega (arith, reach, at.hearing.pulled, at.within)) (omega (arith, reach)))
 
 pub pull_ends : (laws : OrderLaws) (told : Direction) (side : Side) (run : Run) (new : Proxy) (most upto : ℕ) (before after : ℕ → Line) (ended : Result (Unit {0}) Halt) (result : Result (Unit {0}) Stop) → told ≡ heard_dir side → run.connected ≡ true
     → upto ≡ min (proxy_of (other side) run).pushed ((proxy_of side run).pulled + most) → result ≡ stop_of (Frame side) ended → IfEnds ended (PullsUpTo told upto (proxy_of side run) new before after)

@@ -236,10 +236,10 @@ pulled_more dir side half others pushed count old new first before after fits so
       shows = heard.passed.shows;
       knows = heard.passed.knows refl;
       reads = record {
-          hearing = hearing_at side new (record half { pulled = upto; order = passage.order }) others upto refl (heard.hearing refl);
-          lane_is = ap (lane_of dir) piece.change.here ∙ lane_changed dir (lane_with_pulled count) (before 1) ∙ ap (lane_with_pulled count) so_far.reads.lane_is ∙ was;
-          within = so_far.reads.within;
-        };
+        hearing = hearing_at side new (record half { pulled = upto; order = passage.order }) others upto refl (heard.hearing refl);
+        lane_is = ap (lane_of dir) piece.change.here ∙ lane_changed dir (lane_with_pulled count) (before 1) ∙ ap (lane_with_pulled count) so_far.reads.lane_is ∙ was;
+        within = so_far.reads.within;
+      };
       ahead = omega (arith, so_far.ahead);
       goes = λ more.
           ap (heard_to side half others) (omega arith)
@@ -265,10 +265,10 @@ pulled_refused dir side half others pushed upto count old new first before after
       within = fits;
       all = λ none. absurd cc;
       heard = record {
-          passed = subst (λ (p : Passage). PassedTo side new.passing p None (Some cause)) (sym passage) heard.passed;
-          place = heard.place ∙ ap (λ p. heard_bytes side p.order) (sym passage);
-          hearing = λ none. absurd cc;
-        };
+        passed = subst (λ (p : Passage). PassedTo side new.passing p None (Some cause)) (sym passage) heard.passed;
+        place = heard.place ∙ ap (λ p. heard_bytes side p.order) (sym passage);
+        hearing = λ none. absurd cc;
+      };
       here = piece.change.here ∙ ap (change_lane dir (lane_with_pulled count)) so_far.here ∙ change_twice dir (lane bytes pushed old.pulled) (lane_with_pulled count) (first 1)
           ∙ ap (λ l. change_lane dir (λ _. l) (first 1)) (lane_pulled bytes pushed old.pulled count (omega arith));
       others_same = λ connection other. piece.change.others connection other ∙ so_far.rest connection other;
@@ -287,10 +287,10 @@ pulled_all dir side half others pushed upto proxy first after end so_far =
       within = omega (arith, end);
       all = λ _. end;
       heard = record {
-          passed = subst (λ (p : Passage). PassedTo side proxy.passing p None None) (sym passage) (record { shows = so_far.shows; knows = λ _. so_far.knows; met = refl });
-          place = so_far.reads.hearing.place ∙ ap (λ p. heard_bytes side p.order) (sym passage);
-          hearing = λ _. subst (λ (p : Passage). Hearing side proxy (record half { pulled = proxy.pulled; order = p.order }) others) (sym passage) so_far.reads.hearing;
-        };
+        passed = subst (λ (p : Passage). PassedTo side proxy.passing p None None) (sym passage) (record { shows = so_far.shows; knows = λ _. so_far.knows; met = refl });
+        place = so_far.reads.hearing.place ∙ ap (λ p. heard_bytes side p.order) (sym passage);
+        hearing = λ _. subst (λ (p : Passage). Hearing side proxy (record half { pulled = proxy.pulled; order = p.order }) others) (sym passage) so_far.reads.hearing;
+      };
       here = so_far.here;
       others_same = so_far.rest;
     }

@@ -157,6 +157,9 @@ pub record RoundSteps (most : ℕ) (old new : Pair) : Type 0 where
   pub far_pushed : HalfPushed Far most five six
   pub near_pulled : HalfPulled Near most six new
 
+last_pulled : (most : ℕ) (six seven new : Pair) → new ≡ seven → Moves (Pull Down most) six seven None → HalfPulled Near most six new
+last_pulled most six seven new same moves = subst (λ (p : Pair). HalfPulled Near most six p) (sym same) (half_pulled Near most six seven moves)
+
 pub round_steps : (most : ℕ) (old new : Pair) → MovesAll (round most) old new None → RoundSteps most old new
 round_steps most old new all =
     let last = Pull Down most ∷ [] in
@@ -183,7 +186,7 @@ round_steps most old new all =
       far_pulled = half_pulled Far most d.0 e.0 e.1.0;
       six = f.0;
       far_pushed = half_pushed Far most e.0 f.0 f.1.0;
-      near_pulled = subst (λ (p : Pair). HalfPulled Near most f.0 p) (sym g.1.1.0) (half_pulled Near most f.0 g.0 g.1.0);
+      near_pulled = last_pulled most f.0 g.0 new g.1.1.0 g.1.0;
     }
 
 -- what is taken in a round

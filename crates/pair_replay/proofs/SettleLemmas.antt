@@ -110,8 +110,18 @@ takes_differ most old new pair now before after sized some was is moves same =
     let far = (was.at Far).taking in
     let near_now = (is.at Near).taking in
     let far_now = (is.at Far).taking in
-    absurd (omega (arith, less, near_now.taken, near.taken, far_now.taken, far.taken, ap (λ p. p.near.taken) same, ap (λ p. p.far.taken) same,
-    ap length (near_now.wire ∙ ap (λ p. p.near.put) same ∙ sym near.wire), ap length (far_now.wire ∙ ap (λ p. p.far.put) same ∙ sym far.wire)))
+    absurd (omega (
+      arith,
+      less,
+      near_now.taken,
+      near.taken,
+      far_now.taken,
+      far.taken,
+      ap (λ p. p.near.taken) same,
+      ap (λ p. p.far.taken) same,
+      ap length (near_now.wire ∙ ap (λ p. p.near.put) same ∙ sym near.wire),
+      ap length (far_now.wire ∙ ap (λ p. p.far.put) same ∙ sym far.wire),
+    ))
 
 pub none_left : (run : Run) (pair : Pair) (line : ℕ → Line) → Stands run pair line → takes_some run ≡ false → AllTaken run
 none_left run pair line stands none =
@@ -187,10 +197,22 @@ pulls_differ laws most old new pair now before after sized all some was is moves
     let far = was.at Far in
     let near_now = is.at Near in
     let far_now = is.at Far in
-    absurd (omega (arith, less, near.hearing.pulled, far.hearing.pulled, near_now.hearing.pulled, far_now.hearing.pulled, ap (λ p. p.near.pulled) same, ap (λ p. p.far.pulled) same,
-    made_long Near Far old.near pair.near pair.far pair.connected near, made_long Far Near old.far pair.far pair.near pair.connected far,
-    made_long Near Far new.near now.near now.far now.connected near_now, made_long Far Near new.far now.far now.near now.connected far_now,
-    ap (λ p. length (frame_bytes Near p.near)) same, ap (λ p. length (frame_bytes Far p.far)) same))
+    absurd (omega (
+      arith,
+      less,
+      near.hearing.pulled,
+      far.hearing.pulled,
+      near_now.hearing.pulled,
+      far_now.hearing.pulled,
+      ap (λ p. p.near.pulled) same,
+      ap (λ p. p.far.pulled) same,
+      made_long Near Far old.near pair.near pair.far pair.connected near,
+      made_long Far Near old.far pair.far pair.near pair.connected far,
+      made_long Near Far new.near now.near now.far now.connected near_now,
+      made_long Far Near new.far now.far now.near now.connected far_now,
+      ap (λ p. length (frame_bytes Near p.near)) same,
+      ap (λ p. length (frame_bytes Far p.far)) same,
+    ))
 
 -- ---- a round that changes nothing
 
@@ -223,13 +245,31 @@ still_round most run pair near far near_hears far_hears still =
     let now = linked pair in
     let up : Moves (Push Up most) now now None = (cond_both now.connected now (with_half Near (with_pushed Near most pair.near) now) (ap (λ n. with_half Near (record pair.near { pushed = n }) now) still.near_pushed), refl) in
     let down : Moves (Push Down most) now now None = (cond_both now.connected now (with_half Far (with_pushed Far most pair.far) now) (ap (λ n. with_half Far (record pair.far { pushed = n }) now) still.far_pushed), refl) in
-    inr (pair, (pair.near, (None, takes_idle Near most run.near pair.near near still.near_taken, refl, refl)),
-    inr (pair, (pair.far, (None, takes_idle Far most run.far pair.far far still.far_taken, refl, refl)),
-    inr (now, (refl, refl),
-    inr (now, up,
-    inr (now, pull_idle Far most run.far now far_hears still.far_pulled,
-    inr (now, down,
-    inr (now, pull_idle Near most run.near now near_hears still.near_pulled, (refl, refl))))))))
+    inr (
+      pair,
+      (pair.near, (None, takes_idle Near most run.near pair.near near still.near_taken, refl, refl)),
+      inr (
+        pair,
+        (pair.far, (None, takes_idle Far most run.far pair.far far still.far_taken, refl, refl)),
+        inr (
+          now,
+          (refl, refl),
+          inr (
+            now,
+            up,
+            inr (
+              now,
+              pull_idle Far most run.far now far_hears still.far_pulled,
+              inr (
+                now,
+                down,
+                inr (now, pull_idle Near most run.near now near_hears still.near_pulled, (refl, refl)),
+              ),
+            ),
+          ),
+        ),
+      ),
+    )
 
 -- no message, where there are no bytes of frames
 none_made : (messages : List (List ℕ)) → AreMessages messages → length (frames_of messages) ≡ 0 → has_some messages ≡ false

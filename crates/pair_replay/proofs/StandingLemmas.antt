@@ -72,14 +72,14 @@ pub tells_after : (side : Side) (pair : Pair) (now : Half) (line : ℕ → Line)
     → now.pulled ≡ (half_of side pair).pulled → Tells pair line → Tells (with_half side now pair) line
 tells_after Near pair now line up pulled tells = record {
   here = tells.here ∙ ap (λ l. cond pair.connected l fresh_line) (sym (
-    ap (λ u. record { was_opened = true; is_up = true; up = u; down = lane (frame_bytes Far pair.far) pair.far.pushed now.pulled }) up
-    ∙ ap (λ n. record { was_opened = true; is_up = true; up = lane (frame_bytes Near pair.near) pair.near.pushed pair.far.pulled; down = lane (frame_bytes Far pair.far) pair.far.pushed n }) pulled));
+      ap (λ u. record { was_opened = true; is_up = true; up = u; down = lane (frame_bytes Far pair.far) pair.far.pushed now.pulled }) up
+      ∙ ap (λ n. record { was_opened = true; is_up = true; up = lane (frame_bytes Near pair.near) pair.near.pushed pair.far.pulled; down = lane (frame_bytes Far pair.far) pair.far.pushed n }) pulled));
   others = tells.others;
 }
 tells_after Far pair now line down pulled tells = record {
   here = tells.here ∙ ap (λ l. cond pair.connected l fresh_line) (sym (
-    ap (λ d. record { was_opened = true; is_up = true; up = lane (frame_bytes Near pair.near) pair.near.pushed now.pulled; down = d }) down
-    ∙ ap (λ n. record { was_opened = true; is_up = true; up = lane (frame_bytes Near pair.near) pair.near.pushed n; down = lane (frame_bytes Far pair.far) pair.far.pushed pair.near.pulled }) pulled));
+      ap (λ d. record { was_opened = true; is_up = true; up = lane (frame_bytes Near pair.near) pair.near.pushed now.pulled; down = d }) down
+      ∙ ap (λ n. record { was_opened = true; is_up = true; up = lane (frame_bytes Near pair.near) pair.near.pushed n; down = lane (frame_bytes Far pair.far) pair.far.pushed pair.near.pulled }) pulled));
   others = tells.others;
 }
 
@@ -112,11 +112,11 @@ hearing_grown side proxy half others more all hearing =
       pulled = hearing.pulled;
       messages = hearing.messages;
       later = record {
-          messages = later.messages ++ more;
-          rest = later.rest ++ frames_of more;
-          whole = whole;
-          row = sym (append_assoc proxy.reader.front later.rest (frames_of more)) ∙ ap (λ b. b ++ frames_of more) later.row ∙ sym (frames_append later.messages more);
-        };
+        messages = later.messages ++ more;
+        rest = later.rest ++ frames_of more;
+        whole = whole;
+        row = sym (append_assoc proxy.reader.front later.rest (frames_of more)) ∙ ap (λ b. b ++ frames_of more) later.row ∙ sym (frames_append later.messages more);
+      };
       split = split;
       waits = waits_grown later.messages more (length proxy.reader.front) whole (omega (arith, length-append proxy.reader.front later.rest, ap length later.row)) hearing.waits;
       count = hearing.count;
@@ -156,13 +156,13 @@ put_at side from proxy half source connected bytes at =
       shows = at.shows;
       knows = at.knows;
       taking = record {
-          wire = ap (λ w. w ++ bytes) at.taking.wire;
-          taken = at.taking.taken;
-          inside = omega (arith, at.taking.inside, length-append half.put bytes);
-          framer = at.taking.framer ∙ ap cut_rest (sym same);
-          fine = ap cut_fault same ∙ at.taking.fine;
-          took = at.taking.took ∙ ap cut (sym same);
-        };
+        wire = ap (λ w. w ++ bytes) at.taking.wire;
+        taken = at.taking.taken;
+        inside = omega (arith, at.taking.inside, length-append half.put bytes);
+        framer = at.taking.framer ∙ ap cut_rest (sym same);
+        fine = ap cut_fault same ∙ at.taking.fine;
+        took = at.taking.took ∙ ap cut (sym same);
+      };
       hearing = hearing_same side proxy (record proxy { wire = proxy.wire ++ bytes }) half (with_put bytes half) (made_by from source) refl refl refl refl refl refl at.hearing;
       pushed = at.pushed;
       inside = omega (arith, at.inside, ap (λ ms. length (frames_of ms)) made);
@@ -183,10 +183,10 @@ put_moves side run bytes new is line pair stands =
       now = with_half side now pair;
       did = one_move (Put side bytes) pair (with_half side now pair) None (refl, refl);
       stands = record {
-          at = at_after side run pair proxy now own others;
-          connected = connected_after side run pair proxy now stands.connected;
-          tells = tells_after side pair now line (ap (λ ms. lane (frames_of ms) half.pushed (half_of (other side) pair).pulled) made) refl stands.tells;
-        };
+        at = at_after side run pair proxy now own others;
+        connected = connected_after side run pair proxy now stands.connected;
+        tells = tells_after side pair now line (ap (λ ms. lane (frames_of ms) half.pushed (half_of (other side) pair).pulled) made) refl stands.tells;
+      };
     })
 
 -- ---- bytes are taken

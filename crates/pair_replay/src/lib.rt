@@ -18,3 +18,6 @@ mod ways;
 
 pub use replayed::{PeerReport, Replayed};
 pub use replaying::replay;
+
+#[cfg(test)]
+mod tests;
