@@ -1,1 +1,10 @@
+pub mod Hearings
+pub mod Laws
+pub mod Links
+pub mod Messages
 pub mod Outcome
+pub mod Passings
+pub mod Playing
+pub mod Proxies
+pub mod Rounding
+pub mod Standing

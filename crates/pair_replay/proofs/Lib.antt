@@ -1,0 +1,14 @@
+mod ChainLemmas
+mod HearingLemmas
+mod LineLemmas
+mod LinkLemmas
+mod MoveLemmas
+mod OrderLemmas
+mod PassingLemmas
+mod PlayLemmas
+mod RoundLemmas
+mod RowLemmas
+mod SettleLemmas
+mod StandingLemmas
+mod TakingLemmas
+mod WaitingLemmas
