@@ -1,10 +1,10 @@
 -- Calls of a replay, one after the other: what they do is what their moves do, one after the other. The moves are this project's own; the messages are those of the Wayland protocol.
-use Rattle.std.proofs.Common.{◌≡◌, ℕ, List, [], ◌∷◌, ◌++◌, Option, Some, None, Result, Ok, Err, refl, sym, subst, inl, inr, ⊎_elim}
+use Rattle.std.proofs.Common.{◌≡◌, ℕ, List, [], ◌∷◌, ◌++◌, Option, Some, None, Result, Ok, Err, sym, subst, inl, inr, ⊎_elim}
 use Rattle.wp_outside.specs.Lines.{Line}
 use Rattle.replay_model.specs.Halves.{Pair}
-use Rattle.replay_model.specs.Moves.{Move, Moves, MovesAll}
+use Rattle.replay_model.specs.Moves.{Move, MovesAll}
 use Rattle.replay_model.specs.declared.ends.Fault.{Fault}
-use Rattle.pair_replay.specs.Standing.{Stands, StandsOr, CanGo, IfStops, MovedTo, GoesBy, Goes}
+use Rattle.pair_replay.specs.Standing.{CanGo, IfStops, GoesBy, Goes}
 use Rattle.pair_replay.specs.declared.halts.Stop.{Stop}
 use Rattle.pair_replay.specs.declared.halts.Stop.TheVariants as stops
 use Rattle.pair_replay.specs.declared.runs.Run.{Run}

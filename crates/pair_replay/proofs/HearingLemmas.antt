@@ -2,7 +2,7 @@
 use Rattle.std.proofs.Common.{◌≡◌, ℕ, ◌+◌, ◌-◌, ◌^◌, min, ◌<◌, ◌≤◌, List, [], ◌∷◌, ◌++◌, Option, Some, None, Result, Ok, Err, length, refl, ap, ◌∙◌, sym, subst, append_assoc, arith, length-append}
 use Rattle.std.proofs.lemmas.List.{append-nil}
 use Rattle.wl_wire.specs.declared.faults.WireFault.{WireFault}
-use Rattle.wl_wire.specs.Wire.{IsMessage, cut, cut_rest, cut_fault}
+use Rattle.wl_wire.specs.Wire.{cut, cut_rest, cut_fault}
 use Rattle.wl_tables.specs.declared.way.Way.{Way}
 use Rattle.transfer_frames.specs.declared.frame.Frame.{Frame}
 use Rattle.transfer_frames.specs.declared.frame.Frame.TheVariants.{Protocol}
@@ -14,8 +14,7 @@ use Rattle.replay_model.specs.Halves.{of_way, heard_way}
 use Rattle.replay_model.specs.Passing.{Passage, pass_all}
 use Rattle.replay_model.specs.Rows.{frame_of, frames_of, whole_in}
 use Rattle.replay_model.specs.declared.ends.Refusal.{Refusal}
-use Rattle.pair_replay.specs.Hearings.{BeginsRow, HasOne, SameWire, GivesFrame, heard_bytes, HeardAll, HeardFrames, HearsFrames}
-use Rattle.pair_replay.specs.Messages.{AreMessages}
+use Rattle.pair_replay.specs.Hearings.{BeginsRow, HasOne, SameWire, GivesFrame, heard_bytes, HeardFrames, HearsFrames}
 use Rattle.pair_replay.specs.Passings.{Shows, Knows, IfEnds, PassedTo, Passes, PassesWaiting}
 use Rattle.pair_replay.specs.declared.halts.Halt.{Halt}
 use Rattle.pair_replay.specs.declared.halts.Halt.TheVariants as halts

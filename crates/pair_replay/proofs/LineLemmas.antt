@@ -1,29 +1,24 @@
 -- A replay goes on standing for what the link tells, where the connection is made and where bytes of frames go over it. The messages in the frames are those of the Wayland protocol.
-use Rattle.std.proofs.Common.{◌≡◌, ◌≢◌, ℕ, ◌+◌, ◌-◌, ◌≤◌, ◌||◌, min, List, [], ◌∷◌, ◌++◌, Bool, true, false, cond, Option, Some, None, Result, Ok, Err, length, take, drop, refl, ap, ◌∙◌, sym, subst, arith, length-append, inl, inr, ⊎_elim}
+use Rattle.std.proofs.Common.{◌≡◌, ◌≢◌, ℕ, ◌+◌, ◌-◌, ◌≤◌, ◌||◌, min, List, [], ◌∷◌, Bool, true, false, cond, Option, Some, None, Result, Ok, Err, length, take, drop, refl, ap, ◌∙◌, sym, subst, arith, inr, ⊎_elim}
 use Rattle.std.specs.Prelude.{option_map, OnOk}
 use Rattle.std.specs.declared.alloc.AllocError.{AllocError}
 use Rattle.std.proofs.lemmas.List.{append-nil}
-use Rattle.wl_tables.specs.declared.way.Way.{Way}
-use Rattle.wp_outside.specs.Lines.{Line, Lane, Became, lane_of, change_lane, lane_with_pushed, pushed_onto, fresh_lane, fresh_line, opened_line}
+use Rattle.wp_outside.specs.Lines.{Line, Became, lane_of, change_lane, lane_with_pushed, pushed_onto, fresh_lane, fresh_line, opened_line}
 use Rattle.wp_outside.specs.declared.kinds.Direction.{Direction}
 use Rattle.wp_outside.specs.declared.kinds.Direction.TheVariants.{Up, Down}
 use Rattle.wp_outside.specs.declared.kinds.Side.{Side}
 use Rattle.wp_outside.specs.declared.kinds.Side.TheVariants.{Near, Far}
-use Rattle.replay_model.specs.Halves.{Half, Pair, other, half_of, with_half, own_way, heard_way, of_way, given_by, taken_by, made_by}
+use Rattle.replay_model.specs.Halves.{Half, Pair, other, half_of, with_half, given_by, made_by}
 use Rattle.replay_model.specs.Link.{Tells, lane, line_of}
-use Rattle.replay_model.specs.Moves.{Move, Moves, MovesAll, Connect, ConnectIfMade, Push, Pull, Pulls, hearing, with_pushed, frame_bytes, any_made, has_some}
-use Rattle.replay_model.specs.Passing.{Passage}
+use Rattle.replay_model.specs.Moves.{Moves, MovesAll, Connect, ConnectIfMade, Push, Pull, Pulls, hearing, with_pushed, frame_bytes, any_made, has_some}
 use Rattle.replay_model.specs.Rows.{frames_of, whole_in}
 use Rattle.replay_model.specs.declared.ends.Fault.{Fault}
-use Rattle.replay_model.specs.declared.ends.Fault.TheVariants.{Peer, Frame}
+use Rattle.replay_model.specs.declared.ends.Fault.TheVariants.{Frame}
 use Rattle.replay_model.specs.declared.ends.Refusal.{Refusal}
-use Rattle.pair_replay.specs.Hearings.{heard_bytes}
 use Rattle.pair_replay.specs.Laws.{OrderLaws}
-use Rattle.pair_replay.specs.Links.{Hearing, Reads, CanPull, heard_to, HeardTo, SameTaken, Pushes, PulledTo, PullsUpTo}
-use Rattle.pair_replay.specs.Messages.{AreMessages, made_of}
-use Rattle.pair_replay.specs.Passings.{Shows, Knows, IfEnds}
-use Rattle.pair_replay.specs.Proxies.{Taking}
-use Rattle.pair_replay.specs.Standing.{proxy_of, with_proxy, StandsAt, Stands, Told, StandsOr, CanGo, IfStops, MovedTo, GoesBy, Goes, stop_of, or_memory, has_bytes, has_made}
+use Rattle.pair_replay.specs.Links.{Hearing, Reads, CanPull, heard_to, SameTaken, Pushes, PulledTo, PullsUpTo}
+use Rattle.pair_replay.specs.Passings.{IfEnds}
+use Rattle.pair_replay.specs.Standing.{proxy_of, with_proxy, StandsAt, Stands, CanGo, IfStops, MovedTo, Goes, stop_of, or_memory, has_bytes, has_made}
 use Rattle.pair_replay.specs.declared.halts.Halt.{Halt}
 use Rattle.pair_replay.specs.declared.halts.Stop.{Stop}
 use Rattle.pair_replay.specs.declared.halts.Stop.TheVariants as stops

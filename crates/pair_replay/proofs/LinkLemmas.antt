@@ -1,9 +1,9 @@
 -- Bytes of frames go into the link and come out of it: what a lane tells, and what was heard so far. The frames have one message of the Wayland wire format each.
-use Rattle.std.proofs.Common.{◌≡◌, ◌≢◌, ℕ, ◌+◌, ◌-◌, ◌^◌, ◌<◌, ◌≤◌, min, List, [], ◌∷◌, ◌++◌, false, Option, Some, None, Result, Ok, Err, length, take, drop, refl, ap, ◌∙◌, sym, subst, append_assoc, arith, length-append, length-take, length-drop}
-use Rattle.std.proofs.Math.Seq.{take-add, drop-append_seam, take-append-add, drop-append-add}
-use Rattle.std.proofs.lemmas.List.{append-nil, drop-drop, drop-take, take-append-drop, take-append-le, drop-append-le, take-take}
+use Rattle.std.proofs.Common.{◌≡◌, ◌≢◌, ℕ, ◌+◌, ◌-◌, ◌^◌, ◌<◌, ◌≤◌, List, ◌++◌, false, Option, Some, None, Err, length, take, drop, refl, ap, ◌∙◌, sym, subst, append_assoc, arith, length-append, length-take, length-drop}
+use Rattle.std.proofs.Math.Seq.{take-add, drop-append_seam, drop-append-add}
+use Rattle.std.proofs.lemmas.List.{drop-drop, drop-take, take-append-drop, take-append-le, drop-append-le, take-take}
 use Rattle.wl_tables.specs.declared.way.Way.{Way}
-use Rattle.wp_outside.specs.Lines.{Line, Lane, Became, lane_of, change_lane, lane_with_pushed, lane_with_pulled, pushed_onto, pulled_from}
+use Rattle.wp_outside.specs.Lines.{Line, Lane, Became, lane_of, change_lane, lane_with_pushed, lane_with_pulled, pulled_from}
 use Rattle.wp_outside.specs.declared.kinds.Direction.{Direction}
 use Rattle.wp_outside.specs.declared.kinds.Direction.TheVariants.{Up, Down}
 use Rattle.wp_outside.specs.declared.kinds.Side.{Side}
@@ -12,13 +12,12 @@ use Rattle.replay_model.specs.Link.{lane}
 use Rattle.replay_model.specs.Passing.{Passage, pass_all}
 use Rattle.replay_model.specs.Rows.{frames_of, whole_in}
 use Rattle.replay_model.specs.declared.ends.Refusal.{Refusal}
-use Rattle.pair_replay.specs.Hearings.{BeginsRow, SameWire, heard_bytes, HearsFrames, HeardAll}
+use Rattle.pair_replay.specs.Hearings.{BeginsRow, heard_bytes, HearsFrames}
 use Rattle.pair_replay.specs.Links.{Hearing, heard_to, Reads, CanPull, HeardTo, SameTaken, PullsPiece, PulledTo, PullsUpTo}
 use Rattle.pair_replay.specs.Passings.{Shows, Knows, IfEnds, PassedTo}
 use Rattle.pair_replay.specs.declared.halts.Halt.{Halt}
 use Rattle.pair_replay.specs.declared.halts.Halt.TheVariants as halts
 use Rattle.pair_replay.specs.declared.proxy.Proxy.{Proxy}
-use Rattle.pair_replay.proofs.HearingLemmas.{ends_map}
 use Rattle.pair_replay.proofs.OrderLemmas.{frames_append}
 use Rattle.pair_replay.proofs.RowLemmas.{whole_behind}
 use Rattle.pair_replay.proofs.TakingLemmas.{pass_append, pass_own, no_refusal}

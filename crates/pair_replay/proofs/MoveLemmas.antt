@@ -1,27 +1,26 @@
 -- What moves change in the two proxies as plain data, by what the messages of the Wayland protocol that pass add to each other's order.
-use Rattle.std.proofs.Common.{◌≡◌, ◌≢◌, ℕ, ◌+◌, ◌<◌, ◌≤◌, ◌||◌, min, List, [], ◌∷◌, ◌++◌, Bool, true, false, cond, Option, Some, None, Result, Ok, Err, length, take, drop, refl, ap, ◌∙◌, sym, subst, append_assoc, arith, length-append, inl, inr, ⊎_elim}
-use Rattle.std.specs.Prelude.{option_map}
-use Rattle.std.proofs.lemmas.List.{append-nil, take-append-le}
+use Rattle.std.proofs.Common.{◌≡◌, ℕ, ◌≤◌, List, [], ◌∷◌, ◌++◌, true, Option, Some, None, Result, Ok, Err, length, take, drop, refl, ap, ◌∙◌, sym, append_assoc, arith, length-append, inl, inr, ⊎_elim}
+use Rattle.std.proofs.lemmas.List.{append-nil}
 use Rattle.std.proofs.lemmas.Bool.{cases_lt}
-use Rattle.wl_wire.specs.Wire.{cut, cut_rest, cut_fault, IsMessage}
+use Rattle.wl_wire.specs.Wire.{cut}
 use Rattle.wl_tables.specs.declared.way.Way.{Way}
-use Rattle.wl_tables.specs.declared.way.Way.TheVariants.{Request, Event}
+use Rattle.wl_tables.specs.declared.way.Way.TheVariants.{Request}
 use Rattle.wl_objects.specs.Entries.{Tracked, first_objects}
 use Rattle.wl_objects.specs.Registry.{first_state, visible, state_after}
 use Rattle.wl_objects.specs.Tracking.{Step, step, track}
 use Rattle.wl_wire.specs.declared.faults.ObjectFault.{ObjectFault}
 use Rattle.wp_outside.specs.declared.kinds.Side.{Side}
 use Rattle.wp_outside.specs.declared.kinds.Side.TheVariants.{Near, Far}
-use Rattle.replay_model.specs.Halves.{Half, Pair, other, half_of, with_half, own_way, heard_way, of_way, taken_by, given_by, made_by}
-use Rattle.replay_model.specs.Moves.{Move, Moves, MovesAll, Takes, taking, frame_bytes, has_some, any_made}
-use Rattle.replay_model.specs.Passing.{Passage, pass_all, or_refused, refusal, refusal_of}
+use Rattle.replay_model.specs.Halves.{Half, Pair, own_way, heard_way, of_way, taken_by, given_by, made_by}
+use Rattle.replay_model.specs.Moves.{Move, Moves, MovesAll, Takes, has_some}
+use Rattle.replay_model.specs.Passing.{pass_all, or_refused, refusal, refusal_of}
 use Rattle.replay_model.specs.Rows.{frame_of, frames_of, whole_in}
 use Rattle.replay_model.specs.declared.ends.Fault.{Fault}
 use Rattle.replay_model.specs.declared.ends.Refusal.{Refusal}
 use Rattle.pair_replay.specs.Laws.{OrderLaws}
 use Rattle.pair_replay.specs.Messages.{AreMessages, made_of}
 use Rattle.pair_replay.specs.Standing.{has_bytes}
-use Rattle.pair_replay.proofs.OrderLemmas.{frames_append, of_way_append, own_not_heard, heard_not_own, heard_not_made, refusal_known, tracked_more}
+use Rattle.pair_replay.proofs.OrderLemmas.{of_way_append, own_not_heard, heard_not_own, heard_not_made, refusal_known, tracked_more}
 use Rattle.pair_replay.proofs.RowLemmas.{frame_long, whole_more, whole_none}
 
 -- ---- one move and many

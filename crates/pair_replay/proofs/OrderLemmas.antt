@@ -1,28 +1,23 @@
 -- What one more message of the Wayland protocol adds to those that passed: to the messages of each way, to those that were received, to those that are shown, and to the objects.
-use Rattle.std.proofs.Common.{◌≡◌, ℕ, List, [], ◌∷◌, ◌++◌, Bool, true, false, Option, Some, None, Result, Ok, Err, refl, ap, ◌∙◌, sym, append_assoc}
-use Rattle.std.specs.Prelude.{option_to_list, filter_map}
-use Rattle.std.specs.List.{flat_map}
+use Rattle.std.proofs.Common.{◌≡◌, ℕ, List, [], ◌∷◌, ◌++◌, Result, Ok, Err, ap, ◌∙◌, sym, append_assoc}
+use Rattle.std.specs.Prelude.{option_to_list}
 use Rattle.std.proofs.lemmas.List.{append-nil}
 use Rattle.std.proofs.lemmas.List.Elements.{filter_map-append}
 use Rattle.std.proofs.lemmas.Grind.{flat_map-append}
-use Rattle.wl_wire.specs.Wire.{IsMessage}
 use Rattle.wl_wire.specs.declared.faults.ObjectFault.{ObjectFault}
-use Rattle.wl_tables.specs.declared.interface.Interface.{Interface}
 use Rattle.wl_tables.specs.declared.way.Way.{Way}
 use Rattle.wl_tables.specs.declared.way.Way.TheVariants.{Request, Event}
 use Rattle.wl_objects.specs.Entries.{Tracked, first_objects}
 use Rattle.wl_objects.specs.Tracking.{Step, step, track, then_goes}
-use Rattle.wl_objects.specs.Registry.{ObjectsState, first_state, state_after, view, visible}
+use Rattle.wl_objects.specs.Registry.{ObjectsState, first_state, view, visible}
 use Rattle.wl_objects.specs.ObjectLaws.{viewed_in}
 use Rattle.wp_outside.specs.declared.kinds.Side.{Side}
 use Rattle.wp_outside.specs.declared.kinds.Side.TheVariants.{Near, Far}
 use Rattle.replay_model.specs.Halves.{if_way, of_way, own_way, heard_way}
-use Rattle.replay_model.specs.Passing.{Passage, pass_all, or_refused, refusal, refusal_of, objects_after, received_from, received_in, received_of, received_then}
+use Rattle.replay_model.specs.Passing.{refusal, refusal_of, objects_after, received_from, received_in, received_of, received_then}
 use Rattle.replay_model.specs.Rows.{frame_of, frames_of}
-use Rattle.replay_model.specs.declared.ends.Refusal.{Refusal}
-use Rattle.replay_model.specs.declared.received.Received.{Received}
 use Rattle.pair_replay.specs.Laws.{OrderLaws}
-use Rattle.pair_replay.specs.Messages.{AreMessages, seen_of, made_of, is_own}
+use Rattle.pair_replay.specs.Messages.{AreMessages, seen_of, made_of}
 
 -- ---- lists
 

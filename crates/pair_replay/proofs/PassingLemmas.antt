@@ -1,7 +1,6 @@
 -- One message of the Wayland protocol passes a proxy, and what the proxy keeps stays what the order of the messages says.
-use Rattle.std.proofs.Common.{◌≡◌, ℕ, List, [], ◌∷◌, ◌++◌, Bool, true, false, Option, Some, None, Result, Ok, Err, refl, ap, ◌∙◌, sym, subst, append_assoc, length, length-append, arith, ◌+◌, cond}
+use Rattle.std.proofs.Common.{◌≡◌, ℕ, List, [], ◌∷◌, ◌++◌, Bool, true, false, Some, None, Ok, Err, refl, ap, ◌∙◌, sym, subst, length, length-append, arith, cond}
 use Rattle.std.specs.Prelude.{option_to_list, is_some}
-use Rattle.std.proofs.lemmas.List.{append-nil}
 use Rattle.wl_tables.specs.Messages.{handle_kind}
 use Rattle.wl_tables.specs.declared.interface.Interface.{Interface}
 use Rattle.wl_tables.specs.declared.way.Way.{Way}
@@ -25,7 +24,7 @@ use Rattle.pair_replay.specs.Passings.{Shows, Knows, Admits, TookIn, Gave, IfEnd
 use Rattle.pair_replay.specs.declared.halts.Halt.{Halt}
 use Rattle.pair_replay.specs.declared.halts.Halt.TheVariants as halts
 use Rattle.pair_replay.specs.declared.passing.Passing.{Passing}
-use Rattle.pair_replay.proofs.OrderLemmas.{frames_append, messages_append, of_way_own, own_not_heard, heard_not_own, tracked_more, refusal_known, own_not_received, heard_received, heard_not_made, own_made}
+use Rattle.pair_replay.proofs.OrderLemmas.{frames_append, messages_append, of_way_own, heard_not_own, tracked_more, refusal_known, own_not_received, heard_received, heard_not_made, own_made}
 
 pub no_handle : (way : Way) (it : Passed) (objects : Tracked) → handle_kind it.interface (is_event way) it.opcode ≡ None → refusal_of way (Ok (record { passed = it; objects = objects })) ≡ None
 no_handle way it objects none = ap (λ h. cond (is_some h) (Some HandleMissing) None) none

@@ -1,7 +1,6 @@
 -- The lines of a script are played one by one. The script language is this project's own; the messages are those of the Wayland protocol.
 use Rattle.std.proofs.Math.Seq.{drop-cons}
-use Rattle.script_lang.specs.declared.steps.StepKind.{StepKind}
-use Rattle.std.proofs.Common.{◌≡◌, ℕ, suc, ◌+◌, ◌<◌, List, [], ◌∷◌, Bool, true, false, Option, Some, None, Result, Ok, Err, cond, drop, get_or, add-one, length, arith, refl, ap, ◌∙◌, sym, subst, inl, inr}
+use Rattle.std.proofs.Common.{◌≡◌, ℕ, suc, ◌+◌, ◌<◌, List, [], ◌∷◌, Bool, true, false, Some, None, cond, drop, get_or, add-one, length, arith, refl, ap, ◌∙◌, sym, subst, inl, inr}
 use Rattle.std.proofs.lemmas.List.{append-nil}
 use Rattle.wl_wire.specs.Wire.{cut, cut_rest, first, fault_in}
 use Rattle.wl_wire.proofs.Cutting.{stops-nil}
@@ -13,8 +12,7 @@ use Rattle.wp_outside.specs.declared.kinds.Side.TheVariants.{Near, Far}
 use Rattle.script_lang.specs.Puts.{is_stop}
 use Rattle.script_lang.specs.declared.steps.Step.{Step}
 use Rattle.replay_model.specs.Halves.{Half, Pair, first_half, first_pair, other, half_of, made_by}
-use Rattle.replay_model.specs.Link.{Tells}
-use Rattle.replay_model.specs.Runs.{MOST, Does, PlaysLine, Plays, Settles, size_after, end_by}
+use Rattle.replay_model.specs.Runs.{MOST, Does, PlaysLine, Plays, Settles, size_after}
 use Rattle.replay_model.specs.declared.ends.End.{End}
 use Rattle.replay_model.specs.declared.ends.End.TheVariants as ends
 use Rattle.replay_model.specs.declared.ends.Fault.{Fault}
@@ -23,7 +21,7 @@ use Rattle.pair_replay.specs.Outcome.{Reports, Replays}
 use Rattle.pair_replay.specs.Passings.{Shows}
 use Rattle.pair_replay.specs.Playing.{PlayedTo, PlaysTo, PeerAnswered, Answered}
 use Rattle.pair_replay.specs.Proxies.{StartsBeside}
-use Rattle.pair_replay.specs.Standing.{proxy_of, StandsAt, Stands, Told, StandsOr, CanGo, IfStops, MovedTo, GoesBy, StartsRun}
+use Rattle.pair_replay.specs.Standing.{proxy_of, StandsAt, Stands, Told, CanGo, GoesBy, StartsRun}
 use Rattle.pair_replay.specs.declared.proxy.Proxy.{Proxy}
 use Rattle.pair_replay.specs.declared.replayed.PeerReport.{PeerReport}
 use Rattle.pair_replay.specs.declared.replayed.Replayed.{Replayed}

@@ -1,18 +1,14 @@
 -- What one round changes in the two proxies as plain data, and that rounds end. The moves are this project's own; the messages are those of the Wayland protocol.
-use Rattle.std.proofs.Common.{◌≡◌, ◌≢◌, ℕ, suc, ◌+◌, ◌-◌, ◌<◌, ◌≤◌, ◌||◌, min, nat_lt, List, [], ◌∷◌, ◌++◌, Bool, true, false, cond, Option, Some, None, Result, Ok, Err, length, take, drop, refl, ap, ◌∙◌, sym, subst, arith, inl, inr, ⊎_elim}
+use Rattle.std.proofs.Common.{◌≡◌, ℕ, ◌+◌, ◌<◌, ◌≤◌, ◌||◌, min, List, [], ◌∷◌, Bool, true, false, cond, Option, Some, None, length, drop, refl, ap, ◌∙◌, sym, subst, arith, ⊎_elim}
 use Rattle.std.proofs.Math.Seq.{drop-length}
 use Rattle.std.specs.Prelude.{option_map}
-use Rattle.wl_wire.specs.Wire.{cut}
-use Rattle.wl_tables.specs.declared.way.Way.{Way}
-use Rattle.wl_objects.specs.Entries.{Tracked, first_objects}
-use Rattle.wl_objects.specs.Tracking.{track}
 use Rattle.wp_outside.specs.Lines.{Line}
 use Rattle.wp_outside.specs.declared.kinds.Direction.TheVariants.{Up, Down}
 use Rattle.wp_outside.specs.declared.kinds.Side.{Side}
 use Rattle.wp_outside.specs.declared.kinds.Side.TheVariants.{Near, Far}
 use Rattle.replay_model.specs.Halves.{Half, Pair, other, half_of, with_half, own_way, heard_way, given_by, taken_by, made_by}
 use Rattle.replay_model.specs.Moves.{Move, Moves, MovesAll, Take, Push, Pull, ConnectIfMade, Takes, Pulls, taking, with_pushed, frame_bytes, has_some, any_made}
-use Rattle.replay_model.specs.Passing.{Passage, pass_all}
+use Rattle.replay_model.specs.Passing.{pass_all}
 use Rattle.replay_model.specs.Rows.{frames_of, whole_in}
 use Rattle.replay_model.specs.Runs.{round}
 use Rattle.replay_model.specs.declared.ends.Fault.{Fault}
@@ -21,7 +17,7 @@ use Rattle.replay_model.specs.declared.ends.Refusal.{Refusal}
 use Rattle.pair_replay.specs.Laws.{OrderLaws}
 use Rattle.pair_replay.specs.Messages.{made_of}
 use Rattle.pair_replay.specs.Proxies.{Taking}
-use Rattle.pair_replay.specs.Standing.{proxy_of, StandsAt, Stands}
+use Rattle.pair_replay.specs.Standing.{Stands}
 use Rattle.pair_replay.specs.declared.proxy.Proxy.{Proxy}
 use Rattle.pair_replay.specs.declared.runs.Run.{Run}
 use Rattle.pair_replay.proofs.LineLemmas.{own_dir, heard_dir, with_made}

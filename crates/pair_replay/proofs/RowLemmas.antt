@@ -1,5 +1,5 @@
 -- A row of frames, each with one message of the Wayland wire format, is read frame by frame.
-use Rattle.std.proofs.Common.{◌≡◌, ◌≢◌, ℕ, ◌+◌, ◌-◌, ◌<◌, ◌≤◌, nat_le, List, [], ◌∷◌, ◌++◌, Bool, true, false, cond, Option, Some, None, Ok, Err, length, take, drop, refl, ap, ◌∙◌, sym, append_assoc, arith, length-append, length-drop, ⊎_elim}
+use Rattle.std.proofs.Common.{◌≡◌, ◌≢◌, ℕ, ◌+◌, ◌-◌, ◌<◌, ◌≤◌, List, [], ◌∷◌, ◌++◌, cond, Option, Some, None, Ok, Err, length, take, drop, refl, ap, ◌∙◌, sym, append_assoc, arith, length-append, length-drop, ⊎_elim}
 use Rattle.std.proofs.lemmas.List.{append-nil, take-append-le, take-append-drop, take_at}
 use Rattle.std.proofs.lemmas.Bool.{cases_lt, le-leb, lt-leb}
 use Rattle.wl_wire.specs.Wire.{IsMessage, cut, cut_rest, cut_fault, first, fault_in}
@@ -16,7 +16,6 @@ use Rattle.transfer_frames.proofs.FrameLaws.{length-spelling}
 use Rattle.replay_model.specs.Rows.{frame_of, frames_of, whole_in}
 use Rattle.pair_replay.specs.Hearings.{BeginsRow, HasOne}
 use Rattle.pair_replay.specs.Messages.{AreMessages}
-use Rattle.pair_replay.proofs.OrderLemmas.{frames_append}
 
 -- ---- one message
 

@@ -1,29 +1,28 @@
 -- Rounds go on until one changes nothing, and then they end. The moves are this project's own; the messages are those of the Wayland protocol.
-use Rattle.std.proofs.Common.{◌≡◌, ◌≢◌, ℕ, zero, suc, ◌+◌, ◌-◌, ◌<◌, ◌≤◌, ◌||◌, min, nat_lt, List, [], ◌∷◌, ◌++◌, Bool, true, false, cond, Option, Some, None, Result, Ok, Err, length, take, refl, ap, ◌∙◌, sym, subst, arith, length-append, inl, inr, ⊎_elim, ◌⊎◌}
+use Rattle.std.proofs.Common.{◌≡◌, ◌≢◌, ℕ, zero, suc, ◌+◌, ◌-◌, ◌<◌, ◌≤◌, ◌||◌, min, nat_lt, List, [], ◌∷◌, Bool, true, false, cond, Option, Some, None, Result, Err, length, take, refl, ap, ◌∙◌, sym, subst, arith, length-append, inl, inr, ⊎_elim, ◌⊎◌}
 use Rattle.std.proofs.lemmas.Bool.{ltb-true, ltb-false}
 use Rattle.wl_wire.specs.Wire.{cut_fault}
-use Rattle.wl_wire.specs.declared.faults.WireFault.{WireFault}
 use Rattle.wp_outside.specs.Lines.{Line}
 use Rattle.wp_outside.specs.declared.kinds.Direction.TheVariants.{Up, Down}
 use Rattle.wp_outside.specs.declared.kinds.Side.{Side}
 use Rattle.wp_outside.specs.declared.kinds.Side.TheVariants.{Near, Far}
-use Rattle.replay_model.specs.Halves.{Half, Pair, other, half_of, with_half, made_by}
-use Rattle.replay_model.specs.Moves.{Move, Moves, MovesAll, Take, Push, Pull, ConnectIfMade, Takes, taking, or_size, with_pushed, frame_bytes, has_some, any_made}
+use Rattle.replay_model.specs.Halves.{Half, Pair, with_half, made_by}
+use Rattle.replay_model.specs.Moves.{Moves, MovesAll, Push, Takes, or_size, with_pushed, frame_bytes, has_some, any_made}
 use Rattle.replay_model.specs.Rows.{frame_of, frames_of}
-use Rattle.replay_model.specs.Runs.{round, Rounds, Settles}
+use Rattle.replay_model.specs.Runs.{round, Settles}
 use Rattle.replay_model.specs.declared.ends.Fault.{Fault}
 use Rattle.pair_replay.specs.Laws.{OrderLaws}
 use Rattle.pair_replay.specs.Links.{Hearing}
 use Rattle.pair_replay.specs.Messages.{AreMessages}
 use Rattle.pair_replay.specs.Proxies.{Taking}
 use Rattle.pair_replay.specs.Rounding.{Leads, AllTaken, takes_some, pulls_some}
-use Rattle.pair_replay.specs.Standing.{proxy_of, StandsAt, Stands, StandsOr, CanGo, IfStops, MovedTo, GoesBy, Goes}
+use Rattle.pair_replay.specs.Standing.{StandsAt, Stands, IfStops, GoesBy, Goes}
 use Rattle.pair_replay.specs.declared.halts.Stop.{Stop}
 use Rattle.pair_replay.specs.declared.halts.Stop.TheVariants as stops
 use Rattle.pair_replay.specs.declared.proxy.Proxy.{Proxy}
 use Rattle.pair_replay.specs.declared.runs.Run.{Run}
 use Rattle.pair_replay.proofs.LineLemmas.{pull_idle, stops_same}
-use Rattle.pair_replay.proofs.RoundLemmas.{linked, RoundSteps, round_steps, RoundTook, round_took, QuietRound, quiet_round, taking_now}
+use Rattle.pair_replay.proofs.RoundLemmas.{linked, round_steps, round_took, quiet_round, taking_now}
 use Rattle.pair_replay.proofs.RowLemmas.{frame_long}
 use Rattle.pair_replay.proofs.StandingLemmas.{made_bytes, made_whole}
 

@@ -1,36 +1,34 @@
 -- A replay goes on standing for the two proxies as plain data, whichever of them moves. The messages are those of the Wayland protocol.
-use Rattle.std.proofs.Common.{◌≡◌, ◌≢◌, ℕ, ◌+◌, ◌-◌, ◌≤◌, ◌||◌, min, List, [], ◌∷◌, ◌++◌, Bool, true, false, cond, Option, Some, None, Result, Ok, Err, length, take, drop, refl, ap, ◌∙◌, sym, subst, append_assoc, arith, length-append}
+use Rattle.std.proofs.Common.{◌≡◌, ℕ, ◌≤◌, List, [], ◌∷◌, ◌++◌, Bool, true, cond, Option, Some, None, Result, Ok, Err, length, take, refl, ap, ◌∙◌, sym, subst, append_assoc, arith, length-append}
 use Rattle.std.specs.Prelude.{option_map, OnOk}
 use Rattle.std.proofs.lemmas.List.{append-nil, take-append-le}
 use Rattle.wl_wire.specs.Wire.{cut, cut_rest, cut_fault}
-use Rattle.wl_tables.specs.declared.way.Way.{Way}
 use Rattle.std.specs.declared.alloc.AllocError.{AllocError}
 use Rattle.wp_outside.specs.Lines.{Line, fresh_line}
 use Rattle.wp_outside.specs.declared.kinds.Side.{Side}
 use Rattle.wp_outside.specs.declared.kinds.Side.TheVariants.{Near, Far}
-use Rattle.replay_model.specs.Halves.{Half, Pair, other, half_of, with_half, heard_way, given_by, taken_by, made_by}
-use Rattle.replay_model.specs.Link.{Tells, lane, line_of}
-use Rattle.replay_model.specs.Moves.{Move, Moves, MovesAll, Put, Take, with_put, frame_bytes}
+use Rattle.replay_model.specs.Halves.{Half, Pair, other, half_of, with_half, given_by, made_by}
+use Rattle.replay_model.specs.Link.{Tells, lane}
+use Rattle.replay_model.specs.Moves.{MovesAll, Put, Take, with_put, frame_bytes}
 use Rattle.replay_model.specs.Rows.{frames_of, whole_in}
 use Rattle.replay_model.specs.declared.ends.Fault.{Fault}
-use Rattle.replay_model.specs.declared.ends.Fault.TheVariants.{Peer, Frame}
+use Rattle.replay_model.specs.declared.ends.Fault.TheVariants.{Peer}
 use Rattle.replay_model.specs.declared.ends.Refusal.{Refusal}
-use Rattle.pair_replay.specs.Hearings.{BeginsRow, heard_bytes}
+use Rattle.pair_replay.specs.Hearings.{heard_bytes}
 use Rattle.pair_replay.specs.Laws.{OrderLaws}
 use Rattle.pair_replay.specs.Links.{Hearing}
-use Rattle.pair_replay.specs.Messages.{AreMessages, made_of}
+use Rattle.pair_replay.specs.Messages.{AreMessages}
 use Rattle.pair_replay.specs.Passings.{Shows, Knows, IfEnds}
-use Rattle.pair_replay.specs.Proxies.{Taking, SameLink, TookUpTo, TakesUpTo}
-use Rattle.pair_replay.specs.Standing.{proxy_of, with_proxy, StandsAt, Stands, Told, StandsOr, CanGo, IfStops, MovedTo, GoesBy, Goes, stop_of, or_memory}
+use Rattle.pair_replay.specs.Proxies.{Taking, SameLink, TakesUpTo}
+use Rattle.pair_replay.specs.Standing.{proxy_of, with_proxy, StandsAt, Stands, Told, StandsOr, CanGo, IfStops, MovedTo, Goes, stop_of, or_memory}
 use Rattle.pair_replay.specs.declared.halts.Halt.{Halt}
 use Rattle.pair_replay.specs.declared.halts.Halt.TheVariants as halts
 use Rattle.pair_replay.specs.declared.halts.Stop.{Stop}
-use Rattle.pair_replay.specs.declared.halts.Stop.TheVariants as stops
 use Rattle.pair_replay.specs.declared.proxy.Proxy.{Proxy}
 use Rattle.pair_replay.specs.declared.runs.Run.{Run}
 use Rattle.pair_replay.proofs.LinkLemmas.{lane_grown}
 use Rattle.pair_replay.proofs.MoveLemmas.{one_move, made_is, made_same, TookHalf, took_half, messages_behind, waits_grown}
-use Rattle.pair_replay.proofs.OrderLemmas.{frames_append, messages_append}
+use Rattle.pair_replay.proofs.OrderLemmas.{frames_append}
 
 -- ---- both sides, where one moves
 

@@ -1,5 +1,5 @@
 -- A proxy takes bytes behind those that it took before, and the messages of the Wayland protocol that they make whole pass.
-use Rattle.std.proofs.Common.{◌≡◌, ℕ, ◌+◌, ◌≤◌, min, List, [], ◌∷◌, ◌++◌, Option, Some, None, Err, length, take, drop, refl, ap, ◌∙◌, sym, subst, append_assoc, add_assoc, arith}
+use Rattle.std.proofs.Common.{◌≡◌, ℕ, ◌+◌, ◌≤◌, min, List, [], ◌∷◌, ◌++◌, Option, Some, None, Err, length, take, drop, refl, ap, ◌∙◌, sym, subst, append_assoc, arith}
 use Rattle.std.proofs.Math.Seq.{take-add, drop-append_seam}
 use Rattle.std.proofs.lemmas.List.{append-nil, drop-drop}
 use Rattle.wl_wire.specs.declared.faults.WireFault.{WireFault}
@@ -8,16 +8,15 @@ use Rattle.wl_wire.proofs.CuttingLaws.{cut-goes_on, cut-stops, cut-nothing}
 use Rattle.wl_tables.specs.declared.way.Way.{Way}
 use Rattle.wp_outside.specs.declared.kinds.Side.{Side}
 use Rattle.replay_model.specs.Halves.{Half, own_way, of_way, taken_by}
-use Rattle.replay_model.specs.Moves.{Takes, taking, or_size}
-use Rattle.replay_model.specs.Passing.{Passage, pass_all, or_refused, refusal}
+use Rattle.replay_model.specs.Moves.{taking, or_size}
+use Rattle.replay_model.specs.Passing.{pass_all, or_refused, refusal}
 use Rattle.replay_model.specs.declared.ends.Refusal.{Refusal}
-use Rattle.pair_replay.specs.Passings.{Shows, Knows, IfEnds, PassedTo, Passes, PassesWaiting}
+use Rattle.pair_replay.specs.Passings.{Shows, Knows, IfEnds, PassesWaiting}
 use Rattle.pair_replay.specs.Proxies.{Taking, SameLink, TakesPiece, TookUpTo, TakesUpTo}
 use Rattle.pair_replay.specs.declared.halts.Halt.{Halt}
 use Rattle.pair_replay.specs.declared.halts.Halt.TheVariants as halts
 use Rattle.pair_replay.specs.declared.proxy.Proxy.{Proxy}
 use Rattle.pair_replay.proofs.OrderLemmas.{of_way_own}
-use Rattle.pair_replay.proofs.WaitingLemmas.{front_passes}
 
 -- ---- messages behind others
 

@@ -1,12 +1,12 @@
 -- How a proxy hears the frames that the other one made, one of each message of the Wayland wire format. The proxies and their frames are this project's own.
-use Rattle.std.specs.Prelude.{◌≡◌, ℕ, ◌+◌, List, [], ◌∷◌, ◌++◌, Option, Some, None, length}
+use Rattle.std.specs.Prelude.{◌≡◌, ℕ, ◌+◌, List, [], ◌∷◌, ◌++◌, Option, None, length}
 use Rattle.wl_wire.specs.Wire.{IsMessage}
 use Rattle.transfer_frames.specs.declared.frame.Frame.{Frame}
 use Rattle.transfer_frames.specs.declared.frame.Frame.TheVariants.{Protocol}
 use Rattle.wl_tables.specs.declared.way.Way.{Way}
 use Rattle.wp_outside.specs.declared.kinds.Side.{Side}
 use Rattle.replay_model.specs.Halves.{heard_way, of_way}
-use Rattle.replay_model.specs.Passing.{Passage, pass_all}
+use Rattle.replay_model.specs.Passing.{pass_all}
 use Rattle.replay_model.specs.Rows.{frames_of, whole_in}
 use Rattle.replay_model.specs.declared.ends.Refusal.{Refusal}
 use Rattle.pair_replay.specs.Messages.{AreMessages}

@@ -1,6 +1,5 @@
 -- How the bytes of frames go into the link and come out of it, each with one message of the Wayland wire format. The link and the frames are this project's own.
-use Rattle.std.specs.Prelude.{◌≡◌, ◌≢◌, ℕ, ◌+◌, ◌-◌, ◌≤◌, min, List, [], ◌++◌, Option, Some, None, length, take, drop}
-use Rattle.wl_tables.specs.declared.way.Way.{Way}
+use Rattle.std.specs.Prelude.{◌≡◌, ◌≢◌, ℕ, ◌+◌, ◌-◌, ◌≤◌, min, List, [], ◌++◌, Option, None, length, take, drop}
 use Rattle.wp_outside.specs.Lines.{Line, Became, lane_of, change_lane, pushed_onto, pulled_from}
 use Rattle.wp_outside.specs.declared.kinds.Direction.{Direction}
 use Rattle.wp_outside.specs.declared.kinds.Side.{Side}
@@ -9,7 +8,7 @@ use Rattle.replay_model.specs.Link.{lane}
 use Rattle.replay_model.specs.Passing.{Passage, pass_all}
 use Rattle.replay_model.specs.Rows.{frames_of, whole_in}
 use Rattle.replay_model.specs.declared.ends.Refusal.{Refusal}
-use Rattle.pair_replay.specs.Hearings.{BeginsRow, SameWire, heard_bytes}
+use Rattle.pair_replay.specs.Hearings.{BeginsRow, heard_bytes}
 use Rattle.pair_replay.specs.Passings.{Shows, Knows, PassedTo}
 use Rattle.pair_replay.specs.declared.proxy.Proxy.{Proxy}
 

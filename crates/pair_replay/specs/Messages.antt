@@ -1,5 +1,5 @@
 -- What a proxy keeps of the messages of the Wayland protocol that pass it, by the order in which they pass. The two proxies are this project's own.
-use Rattle.std.specs.Prelude.{◌≡◌, ℕ, Bool, true, false, List, Option, Some}
+use Rattle.std.specs.Prelude.{◌≡◌, ℕ, Bool, true, false, List, Some}
 use Rattle.std.specs.List.{AllByRecursion}
 use Rattle.wl_wire.specs.Wire.{IsMessage}
 use Rattle.wl_tables.specs.declared.way.Way.{Way}

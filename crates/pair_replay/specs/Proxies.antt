@@ -1,14 +1,10 @@
 -- How a proxy stands for what it took of its peer's wire and for what it heard over the link, and what its calls change. The messages are those of the Wayland wire format; the proxies and their frames are this project's own.
-use Rattle.std.specs.Prelude.{◌≡◌, ℕ, ◌+◌, ◌≤◌, List, [], ◌∷◌, ◌++◌, Option, Some, None, length, take, drop}
-use Rattle.wl_wire.specs.Wire.{IsMessage, cut, cut_rest, cut_fault}
-use Rattle.wl_tables.specs.declared.way.Way.{Way}
+use Rattle.std.specs.Prelude.{◌≡◌, ℕ, ◌+◌, ◌≤◌, [], ◌++◌, Option, None, length, take, drop}
+use Rattle.wl_wire.specs.Wire.{cut, cut_rest, cut_fault}
 use Rattle.wp_outside.specs.declared.kinds.Side.{Side}
-use Rattle.replay_model.specs.Halves.{Half, own_way, heard_way, of_way, taken_by, given_by}
+use Rattle.replay_model.specs.Halves.{Half, own_way, taken_by}
 use Rattle.replay_model.specs.Moves.{Takes}
-use Rattle.replay_model.specs.Passing.{pass_all}
-use Rattle.replay_model.specs.Rows.{frames_of, whole_in}
 use Rattle.replay_model.specs.declared.ends.Refusal.{Refusal}
-use Rattle.pair_replay.specs.Messages.{AreMessages}
 use Rattle.pair_replay.specs.Passings.{Starts, Shows, Knows, PassesWaiting}
 use Rattle.pair_replay.specs.declared.proxy.Proxy.{Proxy}
 

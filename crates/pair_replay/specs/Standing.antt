@@ -1,11 +1,11 @@
 -- How a replay on its way stands for the two proxies as plain data and for what the link tells. The messages are those of the Wayland protocol; the proxies and the link are this project's own.
-use Rattle.std.specs.Prelude.{◌≡◌, ℕ, ◌≤◌, ◌||◌, Bool, true, false, List, [], ◌∷◌, Option, Some, None, option_map, Result, Ok, Err, length}
+use Rattle.std.specs.Prelude.{◌≡◌, ℕ, ◌≤◌, ◌||◌, Bool, true, false, List, [], ◌∷◌, Option, Some, None, Result, Ok, Err, length}
 use Rattle.std.specs.declared.alloc.AllocError.{AllocError}
 use Rattle.wp_outside.specs.Lines.{Line}
 use Rattle.wp_outside.specs.declared.kinds.Side.{Side}
 use Rattle.wp_outside.specs.declared.kinds.Side.TheVariants.{Near, Far}
 use Rattle.replay_model.specs.Halves.{Half, Pair, other, half_of, made_by}
-use Rattle.replay_model.specs.Link.{NothingOpened, Tells}
+use Rattle.replay_model.specs.Link.{Tells}
 use Rattle.replay_model.specs.Moves.{Move, MovesAll, frame_bytes}
 use Rattle.replay_model.specs.declared.ends.Fault.{Fault}
 use Rattle.replay_model.specs.declared.ends.Refusal.{Refusal}

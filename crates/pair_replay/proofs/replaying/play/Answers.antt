@@ -1,7 +1,5 @@
-use Rattle.std.proofs.Common.{◌≡◌, ◌+◌, ◌<◌, ◌≤◌, ◌∷◌, [], List, drop, get_or, length, refl, ap, ◌∙◌, sym, subst, arith, add-one}
+use Rattle.std.proofs.Common.{◌+◌, drop, refl, ◌∙◌, sym, arith}
 use Rattle.std.proofs.Math.ListN.{drop_of_length-le}
-use Rattle.std.proofs.Math.Seq.{drop-cons}
-use Rattle.script_lang.specs.declared.steps.Step.{Step}
 use Rattle.pair_replay.proofs.PlayLemmas.{plays_first, can_play, next_step, plays_more, plays_stop, plays_fault, plays_end, plays_end_fault}
 use Rattle.pair_replay.proofs.replaying.play.Goals as goal
 

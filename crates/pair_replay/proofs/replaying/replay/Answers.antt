@@ -1,4 +1,4 @@
-use Rattle.std.proofs.Common.{ℕ, List, subst}
+use Rattle.std.proofs.Common.{List, subst}
 use Rattle.script_lang.specs.declared.steps.Step.{Step}
 use Rattle.replay_model.specs.Halves.{first_pair}
 use Rattle.pair_replay.specs.Outcome.{Replays}

@@ -1,4 +1,4 @@
-use Rattle.std.proofs.Common.{◌≡◌, List, ℕ, None, Some, sym, ◌∙◌, refl, subst}
+use Rattle.std.proofs.Common.{◌≡◌, List, ℕ, None, Some, ◌∙◌, refl, subst}
 use Rattle.replay_model.specs.declared.ends.Refusal.TheVariants.{Object}
 use Rattle.wl_wire.specs.declared.faults.ObjectFault.TheVariants.{Wire}
 use Rattle.pair_replay.specs.Passings.{PassesWaiting}

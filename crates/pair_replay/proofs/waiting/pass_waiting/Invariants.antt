@@ -1,8 +1,5 @@
-use Rattle.std.proofs.Common.{◌≡◌, ℕ, List, length}
-use Rattle.wl_tables.specs.declared.way.Way.{Way}
-use Rattle.wl_wire.specs.Wire.{cut, cut_rest}
-use Rattle.wp_outside.specs.declared.kinds.Side.{Side}
-use Rattle.pair_replay.specs.Passings.{Shows, Knows}
+use Rattle.std.proofs.Common.{◌≡◌, length}
+use Rattle.wl_wire.specs.Wire.{cut_rest}
 use Rattle.pair_replay.proofs.WaitingLemmas.{PassesSoFar}
 use Rattle.pair_replay.proofs.waiting.pass_waiting.Given as goal
 

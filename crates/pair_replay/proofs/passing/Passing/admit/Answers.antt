@@ -1,4 +1,4 @@
-use Rattle.std.proofs.Common.{◌≡◌, None, Ok, refl, ap, ◌∙◌, sym}
+use Rattle.std.proofs.Common.{◌≡◌, None, refl, ap, ◌∙◌, sym}
 use Rattle.wl_tables.specs.Messages.{handle_kind}
 use Rattle.wl_objects.specs.Tracking.{is_event}
 use Rattle.replay_model.specs.Passing.{refusal_of}

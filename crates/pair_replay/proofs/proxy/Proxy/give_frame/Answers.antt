@@ -1,7 +1,5 @@
-use Rattle.std.proofs.Common.{List, ℕ, Option, ◌≡◌, ◌++◌, ◌∙◌, ap, subst}
+use Rattle.std.proofs.Common.{List, ℕ, ◌≡◌, ◌++◌, ◌∙◌, ap, subst}
 use Rattle.replay_model.specs.Halves.{heard_way}
-use Rattle.replay_model.specs.declared.ends.Refusal.{Refusal}
-use Rattle.transfer_frames.specs.declared.frame.Frame.TheVariants.{Protocol}
 use Rattle.wl_tables.specs.declared.way.Way.{Way}
 use Rattle.pair_replay.specs.Hearings.{GivesFrame}
 use Rattle.pair_replay.specs.Passings.{PassesWaiting, IfEnds}

@@ -1,6 +1,5 @@
-use Rattle.std.proofs.Common.{◌≡◌, ◌∙◌, length, None, Ok, ap, sym, subst, arith, length-append}
+use Rattle.std.proofs.Common.{◌≡◌, length, None, Ok, ap, sym, subst, arith, length-append}
 use Rattle.frame_stream.specs.Stream.{Stream}
-use Rattle.transfer_frames.specs.Front.{front}
 use Rattle.transfer_frames.specs.Grammar.{spelling}
 use Rattle.transfer_frames.proofs.FrameLaws.{length-spelling}
 use Rattle.pair_replay.specs.Hearings.{HearsFrames}

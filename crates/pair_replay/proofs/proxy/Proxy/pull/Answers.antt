@@ -1,4 +1,4 @@
-use Rattle.std.proofs.Common.{◌+◌, ◌≤◌, arith}
+use Rattle.std.proofs.Common.{arith}
 use Rattle.pair_replay.proofs.LinkLemmas.{pull_first, pull_can, pull_more, pull_halts, pull_ends}
 use Rattle.pair_replay.proofs.proxy.Proxy.pull.Goals as goal
 

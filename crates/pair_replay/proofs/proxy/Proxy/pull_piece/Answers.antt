@@ -1,5 +1,4 @@
-use Rattle.std.proofs.Common.{◌≡◌, ◌+◌, ◌++◌, length, take, ap, ◌∙◌, sym, arith}
-use Rattle.wp_outside.specs.Lines.{lane_of}
+use Rattle.std.proofs.Common.{◌+◌, ◌++◌, ◌∙◌}
 use Rattle.pair_replay.specs.Hearings.{HearsFrames}
 use Rattle.pair_replay.specs.Links.{PullsPiece}
 use Rattle.pair_replay.proofs.HearingLemmas.{ends_map}

@@ -1,4 +1,4 @@
-use Rattle.std.proofs.Common.{◌≡◌, ◌+◌, min, length, arith}
+use Rattle.std.proofs.Common.{arith}
 use Rattle.pair_replay.proofs.TakingLemmas.{loop_first, loop_more, loop_ends, loop_halts}
 use Rattle.pair_replay.proofs.proxy.Proxy.take.Goals as goal
 

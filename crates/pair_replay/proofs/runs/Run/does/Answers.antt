@@ -1,4 +1,4 @@
-use Rattle.std.proofs.Common.{◌≡◌, ℕ, List, [], ◌∷◌, ◌∙◌, sym, subst}
+use Rattle.std.proofs.Common.{ℕ, List, [], ◌∷◌, sym, subst}
 use Rattle.script_lang.specs.declared.steps.StepKind.{StepKind}
 use Rattle.replay_model.specs.Moves.{Put, Take}
 use Rattle.replay_model.specs.Runs.{Does}

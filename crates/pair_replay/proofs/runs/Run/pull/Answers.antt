@@ -1,4 +1,4 @@
-use Rattle.std.proofs.Common.{◌≡◌, arith}
+use Rattle.std.proofs.Common.{arith}
 use Rattle.wp_outside.specs.declared.kinds.Side.TheVariants.{Near, Far}
 use Rattle.pair_replay.proofs.LineLemmas.{nothing_pulled, can_pull_in, pull_ends}
 use Rattle.pair_replay.proofs.runs.Run.pull.Goals as goal

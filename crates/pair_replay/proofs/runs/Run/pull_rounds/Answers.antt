@@ -1,4 +1,4 @@
-use Rattle.std.proofs.Common.{◌∙◌, sym, None, Err, arith}
+use Rattle.std.proofs.Common.{◌∙◌, sym, None}
 use Rattle.pair_replay.specs.Rounding.{Leads}
 use Rattle.pair_replay.proofs.ChainLemmas.{can_after}
 use Rattle.pair_replay.proofs.SettleLemmas.{leads_first, leads_more, leads_halts, leads_to_fault, leads_then, pulls_less, pulls_differ, still_taken, all_still}

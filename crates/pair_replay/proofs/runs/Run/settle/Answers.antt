@@ -1,4 +1,3 @@
-use Rattle.std.proofs.Common.{◌∙◌, sym, None, Err, arith}
 use Rattle.pair_replay.specs.Rounding.{Leads}
 use Rattle.pair_replay.proofs.ChainLemmas.{can_after}
 use Rattle.pair_replay.proofs.SettleLemmas.{leads_to_fault, settles_then}

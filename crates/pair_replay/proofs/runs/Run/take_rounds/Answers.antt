@@ -1,6 +1,4 @@
-use Rattle.std.proofs.Common.{◌∙◌, sym, None, arith}
-use Rattle.pair_replay.specs.Rounding.{Leads}
-use Rattle.pair_replay.proofs.ChainLemmas.{can_after}
+use Rattle.std.proofs.Common.{◌∙◌, sym}
 use Rattle.pair_replay.proofs.SettleLemmas.{leads_more, leads_halts, takes_less, takes_differ, none_left}
 use Rattle.pair_replay.proofs.runs.Run.take_rounds.Goals as goal
 
