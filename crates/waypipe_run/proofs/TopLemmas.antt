@@ -23,7 +23,7 @@ use Rattle.replay_model.specs.declared.ends.End.{End}
 use Rattle.replay_model.specs.declared.ends.End.TheVariants as ends
 use Rattle.replay_model.specs.declared.ends.Fault.{Fault}
 use Rattle.replay_model.specs.declared.ends.Fault.TheVariants as faults
-use Rattle.replay_model.proofs.Claims.{no_fault_comes, one_run}
+use Rattle.replay_model.proofs.Claims.{no_fault_comes, one_run, stops_at_stop}
 use Rattle.wp_outside.specs.Counts.{Rose}
 use Rattle.wp_outside.specs.Lines.{Line}
 use Rattle.wp_outside.specs.Pieces.{IfTold}
@@ -33,7 +33,7 @@ use Rattle.waypipe_run.specs.Built.{first_unbuilt}
 use Rattle.waypipe_run.specs.Moving.{Took, MOST_INPUT}
 use Rattle.waypipe_run.specs.Outcomes.{status_of, reader_of, frame_cause, peer_cause}
 use Rattle.waypipe_run.specs.Top.{InputState, OutputState, IsAnswer, IsLimit, Tells, TellsText, Printed, Outcome, Refused, Reported, IsScript, IsListed, TellsStream}
-use Rattle.waypipe_run.specs.TopLaws.{Due, DueOfBuilt, DueOfRead, RunsTo, OneIsDue, status_of_front, status_of_stream, OtherWords, StatusOfInput, StatusOfStream, GoesThrough}
+use Rattle.waypipe_run.specs.TopLaws.{Due, DueOfBuilt, DueOfRead, RunsTo, OneIsDue, status_of_front, status_of_stream, OtherWords, StatusOfInput, StatusOfStream, GoesThrough, DrainsUnlessStopped}
 use Rattle.waypipe_run.specs.Words.{Asks, IsReplay, IsFrames, IsCommand}
 use Rattle.waypipe_run.specs.declared.words.Command.{Command}
 use Rattle.waypipe_run.specs.declared.words.Command.TheVariants.{Replay, Frames}
@@ -343,3 +343,9 @@ goes_through texts answer words old new before after out written bytes steps out
     (λ due. ⊎_elim (λ above. absurd (above_within (length bytes) above.0 few)) (λ within. inl (done_of_script bytes steps answer script all within.1)) due)
     (λ others. ⊎_elim (λ hindered. ⊎_elim (λ memory. inr memory) (λ failed. absurd (no_write failed.1)) hindered) (λ fault. absurd (no_read fault.1)) others)
     (status_decided texts answer words old new before after out written bytes outcome command left)
+
+pub drains_unless_stopped : DrainsUnlessStopped
+drains_unless_stopped steps pair ends.Drained line ran done all = (refl, ran.came.0)
+drains_unless_stopped steps pair ends.Stopped line ran done all = absurd (stops_at_stop steps pair ran.runs all)
+drains_unless_stopped steps pair (ends.Fault (faults.Peer side cause)) line ran done all = absurd (cc)
+drains_unless_stopped steps pair (ends.Fault (faults.Frame side cause)) line ran done all = absurd (cc)

@@ -8,19 +8,22 @@ use Rattle.transfer_frames.specs.declared.frame.Frame.{Frame}
 use Rattle.transfer_frames.specs.declared.cause.FrameCause.{FrameCause}
 use Rattle.frame_stream.specs.Listing.{Lists}
 use Rattle.script_lang.specs.Grammar.{steps_of}
+use Rattle.script_lang.specs.Puts.{before_stop}
 use Rattle.script_lang.specs.declared.causes.ScriptCause.TheVariants.{NotBuilt}
 use Rattle.script_lang.specs.declared.causes.ScriptRead.{ScriptRead}
 use Rattle.script_lang.specs.declared.causes.ScriptRead.TheVariants as read
 use Rattle.script_lang.specs.declared.steps.Step.{Step}
 use Rattle.replay_model.specs.Halves.{Pair}
+use Rattle.replay_model.specs.Headline.{HoldsAll}
 use Rattle.replay_model.specs.RunLaws.{AllPass}
 use Rattle.replay_model.specs.Runs.{Runs}
 use Rattle.replay_model.specs.declared.ends.End.{End}
+use Rattle.replay_model.specs.declared.ends.End.TheVariants as ends
 use Rattle.wp_outside.specs.Counts.{Rose}
 use Rattle.wp_outside.specs.Lines.{Line}
 use Rattle.waypipe_run.specs.Built.{first_unbuilt}
 use Rattle.waypipe_run.specs.Moving.{MOST_INPUT}
-use Rattle.waypipe_run.specs.Outcomes.{status_of}
+use Rattle.waypipe_run.specs.Outcomes.{Ran, status_of}
 use Rattle.waypipe_run.specs.Top.{InputState, OutputState, Outcome, IsScript}
 use Rattle.waypipe_run.specs.Words.{IsReplay, IsFrames, IsCommand}
 use Rattle.waypipe_run.specs.declared.causes.Limit.TheVariants.{Input, Lines}
@@ -92,3 +95,9 @@ GoesThrough = (texts : Bool) (answer : Status) (words : List (String Global)) (o
     → length bytes ≤ MOST_INPUT → IsScript bytes steps → AllPass steps
     → (Rose old.faults new.faults → ⊥) → (Rose out.faults written.faults → ⊥)
     → (answer ≡ status.Done) ⊎ (answer ≡ status.Memory)
+
+-- Without a line `stop`, a replay that meets no fault drains, and each peer has received all.
+abbrev pub DrainsUnlessStopped : Type 0
+DrainsUnlessStopped = (steps : List Step) (pair : Pair) (end : End) (line : ℕ → Line)
+    → Ran steps pair end line → status_of pair end ≡ status.Done → before_stop steps ≡ steps
+    → (end ≡ ends.Drained) × HoldsAll steps pair
