@@ -39,8 +39,8 @@ def repeated(size):
 
 
 def script(path, megabytes, size, piece):
-    """A script of so many million bytes, of messages of a size, moved in pieces."""
-    line = b"app hex " + repeated(size).hex().encode() + b"\n"
+    """A script of so many million bytes, of messages of a size, small ones several to a line, moved in pieces."""
+    line = b"app hex " + (repeated(size) * max(1, 120 // size)).hex().encode() + b"\n"
     with open(path, "wb") as out:
         for first in objects():
             out.write(b"app hex " + first.hex().encode() + b"\n")
