@@ -21,7 +21,8 @@ use Rattle.pair_replay.specs.declared.halts.Halt.TheVariants as halts
 use Rattle.pair_replay.specs.declared.passing.Passing.{Passing}
 use Rattle.pair_replay.specs.declared.proxy.Proxy.{Proxy}
 use Rattle.pair_replay.proofs.OrderLemmas.{frames_append}
-use Rattle.pair_replay.proofs.RowLemmas.{one_cut, one_rest, one_fault, protocol_same, FirstOf, first_of_begun, begun_waits, whole_more, whole_behind}
+use Rattle.pair_replay.proofs.RowLemmas.{one_cut, one_rest, one_fault, protocol_same, FirstOf, first_of_begun, begun_waits, whole_behind}
+use Rattle.replay_model.proofs.FrameRows.{first_fits}
 use Rattle.pair_replay.proofs.WaitingLemmas.{front_refused, no_size, refused_order}
 use Rattle.pair_replay.proofs.TakingLemmas.{pass_append, pass_own, no_refusal}
 
@@ -146,7 +147,7 @@ heard_refused side order bytes row frame old mid new cause next same before give
     let left = whole_in first.others (length old.reader.front - length (frame_of message)) in
     let fits : length (frame_of message) ≤ length old.reader.front = omega (arith, ap length next.front, length-append (spelling frame) mid.reader.front, ap (λ f. length (spelling f)) first.one.is) in
     let all : whole_in row.messages (length bytes) ≡ before.given ++ message ∷ left =
-    whole_so_far side order bytes row old before ∙ ap (λ ms. before.given ++ whole_in ms (length old.reader.front)) first.split ∙ ap (λ ms. before.given ++ ms) (whole_more message first.others (length old.reader.front) fits) in
+    whole_so_far side order bytes row old before ∙ ap (λ ms. before.given ++ whole_in ms (length old.reader.front)) first.split ∙ ap (λ ms. before.given ++ ms) (first_fits message first.others (length old.reader.front) fits) in
     let passage : pass_all way order (whole_in row.messages (length bytes)) ≡ pass_all way before.now (message ∷ []) =
     ap (pass_all way order) all ∙ pass_append way order before.given (message ∷ left) (ap (λ p. p.refused) before.passed) ∙ ap (λ p. pass_all way p.order (message ∷ left)) before.passed
     ∙ front_refused way before.now message left cause some in

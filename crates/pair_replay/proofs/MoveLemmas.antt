@@ -1,5 +1,5 @@
 -- What moves change in the two proxies as plain data, by what the messages of the Wayland protocol that pass add to each other's order.
-use Rattle.std.proofs.Common.{◌≡◌, ℕ, ◌≤◌, List, [], ◌∷◌, ◌++◌, true, Option, Some, None, Result, Ok, Err, length, take, drop, refl, ap, ◌∙◌, sym, append_assoc, arith, length-append, inl, inr, ⊎_elim}
+use Rattle.std.proofs.Common.{◌≡◌, ℕ, ◌≤◌, List, [], ◌∷◌, ◌++◌, true, Option, Some, None, Ok, length, take, drop, refl, ap, ◌∙◌, sym, append_assoc, arith, length-append, inl, inr, ⊎_elim}
 use Rattle.std.proofs.lemmas.List.{append-nil}
 use Rattle.std.proofs.lemmas.Bool.{cases_lt}
 use Rattle.wl_wire.specs.Wire.{cut}
@@ -8,12 +8,11 @@ use Rattle.wl_tables.specs.declared.way.Way.TheVariants.{Request}
 use Rattle.wl_objects.specs.Entries.{Tracked, first_objects}
 use Rattle.wl_objects.specs.Registry.{first_state, visible, state_after}
 use Rattle.wl_objects.specs.Tracking.{Step, step, track}
-use Rattle.wl_wire.specs.declared.faults.ObjectFault.{ObjectFault}
 use Rattle.wp_outside.specs.declared.kinds.Side.{Side}
 use Rattle.wp_outside.specs.declared.kinds.Side.TheVariants.{Near, Far}
 use Rattle.replay_model.specs.Halves.{Half, Pair, own_way, heard_way, of_way, taken_by, given_by, made_by}
 use Rattle.replay_model.specs.Moves.{Move, Moves, MovesAll, Takes, has_some}
-use Rattle.replay_model.specs.Passing.{pass_all, or_refused, refusal, refusal_of}
+use Rattle.replay_model.specs.Passing.{pass_all, or_refused, refusal}
 use Rattle.replay_model.specs.Rows.{frame_of, frames_of, whole_in}
 use Rattle.replay_model.specs.declared.ends.Fault.{Fault}
 use Rattle.replay_model.specs.declared.ends.Refusal.{Refusal}
@@ -21,7 +20,8 @@ use Rattle.pair_replay.specs.Laws.{OrderLaws}
 use Rattle.pair_replay.specs.Messages.{AreMessages, made_of}
 use Rattle.pair_replay.specs.Standing.{has_bytes}
 use Rattle.pair_replay.proofs.OrderLemmas.{of_way_append, own_not_heard, heard_not_own, heard_not_made, refusal_known, tracked_more}
-use Rattle.pair_replay.proofs.RowLemmas.{frame_long, whole_more, whole_none}
+use Rattle.replay_model.proofs.FrameRows.{first_fits, first_part, frame_long}
+use Rattle.replay_model.proofs.Passages.{goes}
 
 -- ---- one move and many
 
@@ -61,11 +61,6 @@ heard_keeps_taken side order (message ∷ messages) = by_refusal (refusal order 
     by_refusal None e = e
     by_refusal (Some cause) e = refl
 
--- a message that is not refused is tracked
-none_steps : (way : Way) (told : Result Step ObjectFault) → refusal_of way told ≡ None → (done : Step) × (told ≡ Ok done)
-none_steps way (Err fault) none = absurd cc
-none_steps way (Ok done) none = (done, refl)
-
 -- messages of the other proxy are not shown to it, nor taken from the peer
 pub heard_keeps_made : (laws : OrderLaws) (side : Side) (order : List (Way × List ℕ)) (objects : Tracked) (messages : List (List ℕ)) → track first_objects order ≡ Ok objects
     → made_of side (pass_all (heard_way side) order messages).order ≡ made_of side order
@@ -78,7 +73,7 @@ heard_keeps_made laws side order objects (message ∷ messages) known =
         → ((done : Step) → step (heard_way side) objects message ≡ Ok done → made_of side (pass_all (heard_way side) (order ++ (heard_way side, message) ∷ []) messages).order ≡ made_of side order)
         → made_of side (or_refused r order (pass_all (heard_way side) (order ++ (heard_way side, message) ∷ []) messages)).order ≡ made_of side order
     by_refusal None is others =
-        let it = none_steps (heard_way side) (step (heard_way side) objects message) (sym (refusal_known laws (heard_way side) order objects message known) ∙ is) in
+        let it = goes (heard_way side) (step (heard_way side) objects message) (sym (refusal_known laws (heard_way side) order objects message known) ∙ is) in
         others it.0 it.1
     by_refusal (Some cause) is others = refl
 
@@ -131,22 +126,22 @@ messages_behind (message ∷ before) after all = messages_behind before after al
 -- frames have bytes
 pub no_frame_waits : (messages : List (List ℕ)) → AreMessages messages → whole_in messages 0 ≡ []
 no_frame_waits [] all = refl
-no_frame_waits (message ∷ messages) all = whole_none message messages 0 (omega (arith, frame_long message all.0))
+no_frame_waits (message ∷ messages) all = first_part message messages 0 (omega (arith, frame_long message))
 
 -- what waits for its end still waits, where more frames stand behind it
 pub waits_grown : (messages more : List (List ℕ)) (count : ℕ) → AreMessages (messages ++ more) → count ≤ length (frames_of messages) → whole_in messages count ≡ [] → whole_in (messages ++ more) count ≡ []
 waits_grown [] more count all fits waits = ap (whole_in more) (omega (arith, fits)) ∙ no_frame_waits more all
 waits_grown (message ∷ messages) more count all fits waits = ⊎_elim
-    (λ short. whole_none message (messages ++ more) count short)
+    (λ short. first_part message (messages ++ more) count short)
     (λ long.
-    let found = whole_more message messages count long in
+    let found = first_fits message messages count long in
     absurd cc)
     (cases_lt count (length (frame_of message)))
 
 -- there are bytes of frames where there are messages
 pub bytes_some : (messages : List (List ℕ)) → AreMessages messages → has_bytes (frames_of messages) ≡ has_some messages
 bytes_some [] all = refl
-bytes_some (message ∷ messages) all = long_bytes (frames_of (message ∷ messages)) (omega (arith, length-append (frame_of message) (frames_of messages), frame_long message all.0))
+bytes_some (message ∷ messages) all = long_bytes (frames_of (message ∷ messages)) (omega (arith, length-append (frame_of message) (frames_of messages), frame_long message))
   where
     long_bytes : (bytes : List ℕ) → 4 ≤ length bytes → has_bytes bytes ≡ true
     long_bytes [] long = absurd (omega arith)

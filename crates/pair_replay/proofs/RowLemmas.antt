@@ -1,7 +1,7 @@
 -- A row of frames, each with one message of the Wayland wire format, is read frame by frame.
-use Rattle.std.proofs.Common.{◌≡◌, ◌≢◌, ℕ, ◌+◌, ◌-◌, ◌<◌, ◌≤◌, List, [], ◌∷◌, ◌++◌, cond, Option, Some, None, Ok, Err, length, take, drop, refl, ap, ◌∙◌, sym, append_assoc, arith, length-append, length-drop, ⊎_elim}
+use Rattle.std.proofs.Common.{◌≡◌, ◌≢◌, ℕ, ◌+◌, ◌<◌, ◌≤◌, List, [], ◌∷◌, ◌++◌, Option, Some, None, Ok, Err, length, take, drop, refl, ap, ◌∙◌, sym, append_assoc, arith, length-append, length-drop, ⊎_elim}
 use Rattle.std.proofs.lemmas.List.{append-nil, take-append-le, take-append-drop, take_at}
-use Rattle.std.proofs.lemmas.Bool.{cases_lt, le-leb, lt-leb}
+use Rattle.std.proofs.lemmas.Bool.{cases_lt}
 use Rattle.wl_wire.specs.Wire.{IsMessage, cut, cut_rest, cut_fault, first, fault_in}
 use Rattle.wl_wire.proofs.Cutting.{stops-nil}
 use Rattle.wl_wire.proofs.CuttingLaws.{cut-message, cut-nothing}
@@ -14,6 +14,7 @@ use Rattle.transfer_frames.specs.Front.{front}
 use Rattle.transfer_frames.proofs.FrontLaws.{front-short, front-spelled, front-proper, none_begins}
 use Rattle.transfer_frames.proofs.FrameLaws.{length-spelling}
 use Rattle.replay_model.specs.Rows.{frame_of, frames_of, whole_in}
+use Rattle.replay_model.proofs.FrameRows.{first_fits, first_part, message_frame}
 use Rattle.pair_replay.specs.Hearings.{BeginsRow, HasOne}
 use Rattle.pair_replay.specs.Messages.{AreMessages}
 
@@ -28,13 +29,6 @@ one_rest message whole = ap cut_rest (sym (append-nil message)) ∙ (cut-message
 
 pub one_fault : (message : List ℕ) → IsMessage message → cut_fault message ≡ None
 one_fault message whole = ap (λ r. fault_in (first r)) (one_rest message whole) ∙ ap fault_in (first-short [] (omega arith))
-
--- and makes a frame
-message_frame : (message : List ℕ) → IsMessage message → IsFrame (Protocol message)
-message_frame message whole = record { fields = (whole.has_header, one_rest message whole); fits = omega (arith, whole.is_bounded) }
-
-pub frame_long : (message : List ℕ) → IsMessage message → 4 ≤ length (frame_of message)
-frame_long message whole = omega (arith, length-spelling (Protocol message))
 
 pub protocol_same : (a b : List ℕ) → Protocol a ≡ Protocol b → a ≡ b
 protocol_same a b e = cc
@@ -98,13 +92,6 @@ begun_fault bytes cause begun fault = row_fault bytes begun.rest begun.messages 
 
 -- ---- the whole frames in front
 
--- a frame that lies wholly in so many bytes, and one that doesn't
-pub whole_more : (message : List ℕ) (messages : List (List ℕ)) (count : ℕ) → length (frame_of message) ≤ count → whole_in (message ∷ messages) count ≡ message ∷ whole_in messages (count - length (frame_of message))
-whole_more message messages count fits = ap (λ b. cond b (message ∷ whole_in messages (count - length (frame_of message))) []) (le-leb (length (frame_of message)) count fits)
-
-pub whole_none : (message : List ℕ) (messages : List (List ℕ)) (count : ℕ) → count < length (frame_of message) → whole_in (message ∷ messages) count ≡ []
-whole_none message messages count short = ap (λ b. cond b (message ∷ whole_in messages (count - length (frame_of message))) []) (lt-leb (length (frame_of message)) count short)
-
 -- where no frame stands at the front, none lies in the bytes
 row_waits : (bytes rest : List ℕ) (messages : List (List ℕ)) → AreMessages messages → bytes ++ rest ≡ frames_of messages → front bytes ≡ Ok None → whole_in messages (length bytes) ≡ []
 row_waits bytes rest [] whole row waits = refl
@@ -112,7 +99,7 @@ row_waits bytes rest (message ∷ messages) whole row waits =
     let frame = message_frame message whole.0 in
     let text = frame_of message in
     ⊎_elim
-    (λ part. whole_none message messages (length bytes) part)
+    (λ part. first_part message messages (length bytes) part)
     (λ all.
     let split = joined_front text (frames_of messages) bytes rest (sym row) all in
     let found : front bytes ≡ Ok (Some (Protocol message)) = ap front split ∙ front-spelled (Protocol message) (drop (length text) bytes) frame in
@@ -128,5 +115,5 @@ whole_behind [] later count = ap (whole_in later) (omega arith)
 whole_behind (message ∷ given) later count =
     let all = length (frames_of (message ∷ given)) + count in
     let long : all ≡ length (frame_of message) + (length (frames_of given) + count) = omega (arith, length-append (frame_of message) (frames_of given)) in
-    whole_more message (given ++ later) all (omega arith)
+    first_fits message (given ++ later) all (omega arith)
     ∙ ap (λ ms. message ∷ ms) (ap (whole_in (given ++ later)) (omega arith) ∙ whole_behind given later count)

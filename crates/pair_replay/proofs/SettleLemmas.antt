@@ -23,7 +23,7 @@ use Rattle.pair_replay.specs.declared.proxy.Proxy.{Proxy}
 use Rattle.pair_replay.specs.declared.runs.Run.{Run}
 use Rattle.pair_replay.proofs.LineLemmas.{pull_idle, stops_same}
 use Rattle.pair_replay.proofs.RoundLemmas.{linked, round_steps, round_took, quiet_round, taking_now}
-use Rattle.pair_replay.proofs.RowLemmas.{frame_long}
+use Rattle.replay_model.proofs.FrameRows.{frame_long}
 use Rattle.pair_replay.proofs.StandingLemmas.{made_bytes, made_whole}
 
 -- ---- rounds that lead on
@@ -273,7 +273,7 @@ still_round most run pair near far near_hears far_hears still =
 -- no message, where there are no bytes of frames
 none_made : (messages : List (List ℕ)) → AreMessages messages → length (frames_of messages) ≡ 0 → has_some messages ≡ false
 none_made [] all none = refl
-none_made (message ∷ messages) all none = absurd (omega (arith, frame_long message all.0, none, length-append (frame_of message) (frames_of messages)))
+none_made (message ∷ messages) all none = absurd (omega (arith, frame_long message, none, length-append (frame_of message) (frames_of messages)))
 
 linked_by : (run : Run) (pair : Pair) (line : ℕ → Line) (connected : Bool) → pair.connected ≡ connected → Stands run pair line → pair.near.pushed ≡ length (frame_bytes Near pair.near) → pair.far.pushed ≡ length (frame_bytes Far pair.far) → linked pair ≡ pair
 linked_by run pair line true up stands near far = ap (λ c. record pair { connected = c }) (ap (λ c. c || any_made pair) up ∙ sym up)

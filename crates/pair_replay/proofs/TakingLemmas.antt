@@ -37,20 +37,6 @@ pass_append way order (message ∷ before) after none = by_refusal (refusal orde
     by_refusal None others e = others e
     by_refusal (Some cause) others e = absurd (none_some cause (sym e))
 
--- behind one that is refused none passes
-pub pass_append_refused : (way : Way) (order : List (Way × List ℕ)) (before after : List (List ℕ)) (cause : Refusal) → (pass_all way order before).refused ≡ Some cause
-    → pass_all way order (before ++ after) ≡ pass_all way order before
-pass_append_refused way order [] after cause some = absurd (none_some cause some)
-pass_append_refused way order (message ∷ before) after cause some = by_refusal (refusal order way message) (pass_append_refused way (order ++ (way, message) ∷ []) before after cause) some
-  where
-    by_refusal : (r : Option Refusal)
-        → ((pass_all way (order ++ (way, message) ∷ []) before).refused ≡ Some cause
-        → pass_all way (order ++ (way, message) ∷ []) (before ++ after) ≡ pass_all way (order ++ (way, message) ∷ []) before)
-        → (or_refused r order (pass_all way (order ++ (way, message) ∷ []) before)).refused ≡ Some cause
-        → or_refused r order (pass_all way (order ++ (way, message) ∷ []) (before ++ after)) ≡ or_refused r order (pass_all way (order ++ (way, message) ∷ []) before)
-    by_refusal None others e = others e
-    by_refusal (Some it) others e = refl
-
 -- messages that pass are all messages of their way
 pub pass_own : (way : Way) (order : List (Way × List ℕ)) (messages : List (List ℕ)) → (pass_all way order messages).refused ≡ None
     → of_way way (pass_all way order messages).order ≡ of_way way order ++ messages

@@ -102,6 +102,7 @@ impl Passing {
     fn take_in(&mut self, message: Message) -> Result<(), AllocError>
         ensures { OnOk result (TookIn self.old self.new message) }
     {
+        // A count that passes 64 bits can't be told; the bytes of so many messages fit no memory either.
         match self.sent.checked_add(1) {
             Some(sent) => match self.shown(message) {
                 Ok(Some(shown)) => {

@@ -25,7 +25,7 @@ use Rattle.replay_model.proofs.Fronts.{starts_refl}
 use Rattle.replay_model.proofs.Ways.{AreMessages}
 
 -- a frame has a first word at least
-frame_long : (message : List ℕ) → 4 ≤ length (frame_of message)
+pub frame_long : (message : List ℕ) → 4 ≤ length (frame_of message)
 frame_long message = omega (arith, length-spelling (Protocol message))
 
 pub frames_append : (a b : List (List ℕ)) → frames_of (a ++ b) ≡ frames_of a ++ frames_of b
@@ -33,10 +33,10 @@ frames_append a b = flat_map-append frame_of a b
 
 -- the first frame lies wholly there, or it doesn't
 
-first_fits : (message : List ℕ) (messages : List (List ℕ)) (count : ℕ) → length (frame_of message) ≤ count → whole_in (message ∷ messages) count ≡ message ∷ whole_in messages (count - length (frame_of message))
+pub first_fits : (message : List ℕ) (messages : List (List ℕ)) (count : ℕ) → length (frame_of message) ≤ count → whole_in (message ∷ messages) count ≡ message ∷ whole_in messages (count - length (frame_of message))
 first_fits message messages count fits = rw (le-leb (length (frame_of message)) count fits) refl
 
-first_part : (message : List ℕ) (messages : List (List ℕ)) (count : ℕ) → count < length (frame_of message) → whole_in (message ∷ messages) count ≡ []
+pub first_part : (message : List ℕ) (messages : List (List ℕ)) (count : ℕ) → count < length (frame_of message) → whole_in (message ∷ messages) count ≡ []
 first_part message messages count part = rw (lt-leb (length (frame_of message)) count part) refl
 
 none_in_nothing : (messages : List (List ℕ)) (count : ℕ) → count ≤ 0 → whole_in messages count ≡ []
@@ -100,7 +100,7 @@ whole_fit (message ∷ made) count = elim (cases_lt count (length (frame_of mess
 
 -- ---- what stands behind them
 
-message_frame : (message : List ℕ) → IsMessage message → IsFrame (Protocol message)
+pub message_frame : (message : List ℕ) → IsMessage message → IsFrame (Protocol message)
 message_frame message whole = record {
   fields = (whole.has_header, ap cut_rest (sym (append-nil message)) ∙ (cut-message message [] whole).1 ∙ (cut-nothing [] stops-nil).1);
   fits = omega (arith, whole.is_bounded);

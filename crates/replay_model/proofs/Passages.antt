@@ -27,7 +27,7 @@ passes_nothing = record { tracked = refl; none_refused = λ front back it e. abs
 
 -- a message that isn't refused passes the objects
 
-goes : (way : Way) (told : Result Step ObjectFault) → refusal_of way told ≡ None → (done : Step) × (told ≡ Ok done)
+pub goes : (way : Way) (told : Result Step ObjectFault) → refusal_of way told ≡ None → (done : Step) × (told ≡ Ok done)
 goes way (Ok done) none = (done, refl)
 goes way (Err fault) none = absurd (cc)
 

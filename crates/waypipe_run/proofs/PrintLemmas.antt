@@ -21,6 +21,7 @@ use Rattle.wl_objects.proofs.Parts.{front-is-tracked}
 use Rattle.wl_objects.proofs.Rows.{passed-by-the-table}
 use Rattle.wl_objects.proofs.Shown.{state-is-tracked}
 use Rattle.wl_text.specs.Text.{CanPrint}
+use Rattle.wl_text.proofs.PrintLemmas.{way-again}
 use Rattle.replay_model.specs.Halves.{if_way}
 use Rattle.replay_model.specs.Headline.{Passes}
 use Rattle.replay_model.specs.Passing.{carries_handle, objects_after, received_from, received_in, received_of, received_then, refusal_of}
@@ -34,10 +35,6 @@ use Rattle.wp_outside.specs.Lines.{Line}
 use Rattle.waypipe_run.specs.Printing.{PrintsAll}
 
 -- ---- the row of a message that passed
-
-way_again : (way : Way) → way_of (is_event way) ≡ way
-way_again Request = refl
-way_again Event = refl
 
 form_ok : (row : Option MessageRow) (form : SignatureForm) → option_map form_of row ≡ Some form → (it : MessageRow) × (row ≡ Some it) × (form_of it ≡ form)
 form_ok (Some it) form e = (it, refl, cc)
@@ -63,7 +60,7 @@ printed way message done is none =
     ap (λ (o : ℕ). is_some (handle_kind done.passed.interface (is_event way) o)) (sym is.opcode) ∙ none in
     record {
       row = found.0;
-      stands = ap (λ (w : Way). slice_get (messages done.passed.interface w) (opcode_of message)) (sym (way_again way)) ∙ found.1;
+      stands = ap (λ (w : Way). slice_get (messages done.passed.interface w) (opcode_of message)) (sym (way-again way)) ∙ found.1;
       good = ap (λ (f : SignatureForm). args_fault f.slots (drop 8 message)) found.2 ∙ is.good;
       named = ap length (sym (no_handle found.0 (row_kind _ found.0 found.1 kind)));
     }
