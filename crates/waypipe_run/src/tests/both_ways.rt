@@ -228,6 +228,16 @@ fn moves(rt: HostRuntime) -> Result<(), Fail> {
     Ok(())
 }
 
+// The status of a frame that a proxy refuses.
+fn frame_refused(reader: Reader, place: u64, cause: FrameCause) -> Status {
+    Status::Frame {
+        reader,
+        connection: 1,
+        place,
+        cause,
+    }
+}
+
 // The compositor's first message, an event of no object that the far proxy knows.
 #[test]
 fn far_peer(rt: HostRuntime) -> Result<(), Fail> {
@@ -259,14 +269,45 @@ fn crossing_messages(rt: HostRuntime) -> Result<(), Fail> {
     let (status, text) = replay(rt.alloc(), script.as_bytes())?;
     assert_eq!(rt;
         status,
-        Status::Frame {
-            reader: Reader::Far,
-            connection: 1,
-            place: 32,
-            cause: FrameCause::PeerMessage(ObjectFault::UnknownObject),
-        }
+        frame_refused(
+            Reader::Far,
+            32,
+            FrameCause::PeerMessage(ObjectFault::UnknownObject)
+        )
     );
     assert_eq!(rt; text.as_slice(), want.as_bytes());
+    Ok(())
+}
+
+// The compositor deletes an id before it heard of it, so the near proxy forgets an object that the far one knows.
+#[test]
+fn near_reader(rt: HostRuntime) -> Result<(), Fail> {
+    let script =
+        "app wl_display@1.sync(new @3)\ntake app 100\nconnect\ncomp wl_display@1.delete_id(3)\ntake comp 100\ndown 100\nup 100\ncomp wl_callback@3.done(1)\n";
+    let want =
+        "connections 1\napplication sent 1 received 1\ncompositor sent 2 received 1\ngot compositor wl_display@1.sync(new @3)\ngot application wl_display@1.delete_id(3)\nframe near connection 1 place 16: PeerMessage UnknownObject\n";
+    let (status, text) = replay_text(rt.alloc(), script.as_bytes())?;
+    let cause = FrameCause::PeerMessage(ObjectFault::UnknownObject);
+    assert_eq!(rt; status, frame_refused(Reader::Near, 16, cause));
+    assert_eq!(rt; text.as_slice(), want.as_bytes());
+    Ok(())
+}
+
+// In the same way an id comes to stand for two objects: the event is one of a seat for the far proxy, and one that
+// carries a handle for the near one.
+#[test]
+fn handle_by_one_table_alone(rt: HostRuntime) -> Result<(), Fail> {
+    let script =
+        "app wl_display@1.get_registry(new @2)\nsettle\napp wl_registry@2.bind(1, \"wl_seat\" 7 new @3)\ntake app 1000\ncomp wl_display@1.delete_id(3)\ntake comp 100\ndown 100\nup 100\napp wl_registry@2.bind(2, \"wl_data_device_manager\" 3 new @4)\napp wl_data_device_manager@4.create_data_source(new @3)\ntake app 1000\ncomp wl_seat@3.name(\"x\")\ntake comp 100\ndown 100\n";
+    let (status, text) = replay_text(rt.alloc(), script.as_bytes())?;
+    assert_eq!(rt;
+        status,
+        frame_refused(Reader::Near, 16, FrameCause::RidCount)
+    );
+    assert!(rt;
+        text.as_slice()
+            .ends_with(b"frame near connection 1 place 16: RidCount\n")
+    );
     Ok(())
 }
 
