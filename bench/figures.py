@@ -1,9 +1,10 @@
 """What the measurements share: building the program, running it on a file, and a row of figures."""
+import atexit
+import functools
 import os
 import subprocess
 import sys
 import tempfile
-import time
 
 BENCH = os.path.dirname(os.path.abspath(__file__))
 ROOT = os.path.dirname(BENCH)
@@ -24,18 +25,20 @@ def plain(name, folder):
     return path
 
 
+@functools.cache
+def runner():
+    """The small program that a run stands under, built once."""
+    holder = folder()
+    atexit.register(holder.cleanup)
+    return plain("run_once", holder.name)
+
+
 def run(words, path):
     """The seconds and the peak memory in bytes of one run; its output is thrown away."""
-    began = time.monotonic()
-    child = os.fork()
-    if child == 0:
-        os.dup2(os.open(path, os.O_RDONLY), 0)
-        os.dup2(os.open(os.devnull, os.O_WRONLY), 1)
-        os.execv(words[0], words)
-    _, status, usage = os.wait4(child, 0)
-    if status != 0:
-        sys.exit(f"{' '.join(words)} < {path}: status {os.waitstatus_to_exitcode(status)}")
-    return time.monotonic() - began, usage.ru_maxrss * 1024
+    told = subprocess.run([runner(), path, *words], stdout=subprocess.PIPE, check=True, text=True).stdout.split()
+    if told[0] != "0":
+        sys.exit(f"{' '.join(words)} < {path}: status {told[0]}")
+    return float(told[1]), int(told[2])
 
 
 def measure(words, path, times=3):

@@ -32,7 +32,9 @@ def objects():
 
 
 def repeated(size):
-    """A message of a size that can be sent any number of times: set_buffer_scale, or set_title."""
+    """A message of a size that can be sent any number of times: commit, set_buffer_scale, or set_title."""
+    if size == 8:
+        return message(5, 6, b"")
     if size == 12:
         return message(5, 8, word(1))
     return message(7, 2, string(b"a" * (size - 13)))
@@ -52,7 +54,7 @@ def main():
     with figures.folder() as folder:
         ours, theirs = [figures.program(), "replay"], [figures.plain("plain_replay", folder)]
         figures.heads("message", "piece")
-        for size in (12, 65532):
+        for size in (8, 12, 65532):
             for piece in (1, 100, 65536):
                 files = []
                 for megabytes in (4, 8, 16):

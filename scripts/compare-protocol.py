@@ -10,6 +10,8 @@ import re
 import sys
 import xml.etree.ElementTree as xml
 
+from recorder.table import rows_in
+
 TOP = os.path.dirname(os.path.dirname(os.path.abspath(__file__)))
 FILES = {
     "core_rows.rt": "/usr/share/wayland/wayland.xml",
@@ -44,15 +46,8 @@ def rows_of_file(path):
 
 
 def rows_of_table(path):
-    text = open(path, encoding="utf-8").read()
-    rows = {}
-    for name, body in re.findall(r"static (\w+): \[Row; \d+\] = \[(.*?)\];\n", text, re.S):
-        found = re.findall(r'(Message|Destructor)\(\s*"(\w+)",\s*&\[(.*?)\],?\s*\)', body, re.S)
-        rows[name] = [
-            (kind == "Destructor", message, [it.strip() for it in places.split(",") if it.strip()])
-            for kind, message, places in found
-        ]
-    return rows
+    with open(path, encoding="utf-8") as source:
+        return rows_in(source.read())
 
 
 def main():

@@ -1,4 +1,5 @@
--- How a run lies to another: before it, after it, or so that both together are one run.
+-- How a run lies to another: before it, after it, or so that both together are one run. This
+-- project's own: Wayland knows no such runs.
 use Rattle.std.specs.Prelude.{ℕ, ◌<◌, ◌≤◌, List, min, max, length}
 use Rattle.std.specs.List.{AllWithin}
 use Rattle.block_intervals.specs.declared.run.Run.{Run}
@@ -17,7 +18,8 @@ Touches new run = (new.first ≤ run.end) × (run.first ≤ new.end)
 
 -- the least run that has the blocks of both
 abbrev pub spanning : Run → Run → Run
-spanning one other = record { first = min one.first other.first; end = max one.end other.end }
+spanning one other =
+    record { first = min one.first other.first; end = max one.end other.end }
 
 -- the runs before `from` are before `new`, those from `to` on after it, and those between touch it
 pub record AreTouched (runs : List Run) (new : Run) (from to : ℕ) : Type 0 where

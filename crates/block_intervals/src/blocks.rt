@@ -1,4 +1,7 @@
-ghost use Rattle.std.specs.Prelude.{◌≡◌, ℕ, ◌<◌, ◌||◌, [], ◌↔◌, length, IsTrue, IfOk, OnOk, OnErr};
+//! Sets of blocks.
+
+ghost use Rattle.std.specs.Prelude.{◌≡◌, ℕ, ◌<◌, ◌||◌, [], ◌↔◌, length, IsTrue};
+ghost use Rattle.std.specs.Prelude.{IfOk, OnOk, OnErr};
 ghost use Rattle.block_intervals.specs.Sets.{has, lies_within, Rises, hull_of};
 
 use crate::places::{ending_until, find_place, replace_runs, spanning_all};
@@ -36,10 +39,15 @@ impl Blocks {
 
     /// Adds the blocks from `first` up to, but not with, `end`.
     ///
-    /// Adding in ascending order costs constant time each. Want of memory changes nothing.
+    /// Constant time where no run begins behind `first`, so that adding in ascending order is
+    /// linear in all; else time that is linear in the runs behind.
+    ///
+    /// # Errors
+    /// Only where memory runs out; the set is then unchanged.
     pub fn add(&mut self, first: u32, end: u32) -> Result<(), AllocError>
         requires { first < end }
-        ensures ok { OnOk result ((block : ℕ) → has block self.new ≡ (has block self.old || lies_within first end block)) }
+        ensures ok { OnOk result ((block : ℕ)
+            → has block self.new ≡ (has block self.old || lies_within first end block)) }
         ensures err { OnErr result (self.new ≡ self.old) }
         ensures rises { Rises self.new }
     {
@@ -49,9 +57,13 @@ impl Blocks {
         replace_runs(&mut self.runs, place.from, place.to, whole)
     }
 
-    /// Adds the blocks of `other`, in time linear in the runs of both. Want of memory changes nothing.
+    /// Adds the blocks of `other`, in time that is linear in the runs of both.
+    ///
+    /// # Errors
+    /// Only where memory runs out; the set is then unchanged.
     pub fn union(&mut self, other: &Blocks) -> Result<(), AllocError>
-        ensures ok { OnOk result ((block : ℕ) → has block self.new ≡ (has block self.old || has block other.now)) }
+        ensures ok { OnOk result ((block : ℕ)
+            → has block self.new ≡ (has block self.old || has block other.now)) }
         ensures err { OnErr result (self.new ≡ self.old) }
         ensures rises { Rises self.new }
     {
@@ -60,11 +72,12 @@ impl Blocks {
         Ok(())
     }
 
-    // The blocks of two ascending lists of runs, the lower run first, so that each is added at the end.
+    // The blocks of two ascending lists of runs, the lower run first: each is added at the end.
     fn merged(mine: &[Run], others: &[Run], alloc: Global) -> Result<Blocks, AllocError>
         requires mine_rise { Rises mine.now }
         requires others_rise { Rises others.now }
-        ensures { IfOk result (λ both. (block : ℕ) → has block both ≡ (has block mine.now || has block others.now)) }
+        ensures { IfOk result (λ both. (block : ℕ)
+            → has block both ≡ (has block mine.now || has block others.now)) }
     {
         let mut both = Blocks::new(alloc);
         let mut at = 0;
@@ -114,7 +127,8 @@ impl Blocks {
         before < self.runs.len() && self.runs[before].first <= block
     }
 
-    /// Fills the gaps: every block from the first of the set to its last. The empty set stays empty.
+    /// Fills the gaps: every block from the first of the set to its last. The empty set stays
+    /// empty.
     pub fn hull(&mut self)
         ensures hull { self.new ≡ hull_of self.old }
         ensures rises { Rises self.new }

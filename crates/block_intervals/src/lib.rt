@@ -9,5 +9,5 @@ mod run;
 mod tests;
 
 pub use blocks::Blocks;
-pub use laws::{has_hull, has_runs_of, runs_are_unique};
+pub use laws::{ends_by_blocks, has_hull, has_runs_of, runs_are_unique};
 pub use run::Run;

@@ -1,5 +1,7 @@
-// Where a run goes among others, and how it takes the place of those that it touches.
-ghost use Rattle.std.specs.Prelude.{◌≡◌, ◌+◌, ◌-◌, ◌<◌, ◌≤◌, ◌∷◌, ◌++◌, length, take, drop, IfSome, OnOk, OnErr};
+//! Where a run goes among others, and how it takes the place of those that it touches.
+
+ghost use Rattle.std.specs.Prelude.{◌≡◌, ◌+◌, ◌-◌, ◌<◌, ◌≤◌, ◌∷◌, ◌++◌, length, take, drop};
+ghost use Rattle.std.specs.Prelude.{IfSome, OnOk, OnErr};
 ghost use Rattle.std.specs.List.{fold, AllWithin};
 ghost use Rattle.block_intervals.specs.Sets.{Rises};
 ghost use Rattle.block_intervals.specs.Places.{spanning, AreTouched};
@@ -7,7 +9,8 @@ ghost use Rattle.block_intervals.specs.Places.{spanning, AreTouched};
 use crate::run::Run;
 use std::alloc::AllocError;
 
-// The runs from `from` up to `to` touch a new one; those before end below it, those after begin above it.
+// The runs from `from` up to `to` touch a new one; those before end below it, those after begin
+// above it.
 #[derive(Clone, Copy)]
 pub(crate) struct Place {
     pub(crate) from: usize,
@@ -105,7 +108,8 @@ pub(crate) fn replace_runs(
 ) -> Result<(), AllocError>
     requires order { from ≤ to }
     requires within { to ≤ length runs.old.items }
-    ensures ok { OnOk result (runs.new.items ≡ take from runs.old.items ++ run ∷ drop to runs.old.items) }
+    ensures ok { OnOk result
+        (runs.new.items ≡ take from runs.old.items ++ run ∷ drop to runs.old.items) }
     ensures err { OnErr result (runs.new.items ≡ runs.old.items) }
 {
     if from == to {

@@ -1,4 +1,7 @@
-ghost use Rattle.std.specs.Prelude.{◌≡◌, min, max};
+//! A stretch of blocks.
+
+ghost use Rattle.std.specs.Prelude.{◌≡◌};
+ghost use Rattle.block_intervals.specs.Places.{spanning};
 
 /// The blocks from `first` up to, but not with, `end`.
 #[derive(Clone, Copy, Debug, PartialEq, Eq)]
@@ -12,7 +15,7 @@ pub struct Run {
 impl Run {
     // The least run that has the blocks of both.
     pub(crate) fn spanning(self, other: Run) -> Run
-        ensures { result ≡ record { first = min self.first other.first; end = max self.end other.end } }
+        ensures { result ≡ spanning self other }
     {
         Run {
             first: self.first.min(other.first),

@@ -1,4 +1,5 @@
-// What the calls that want memory answer where there is enough.
+//! What the calls that want memory answer where there is enough.
+
 use crate::{Blocks, Run};
 use std::rt::HostRuntime;
 

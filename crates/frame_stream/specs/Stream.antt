@@ -1,4 +1,5 @@
--- What a reader of the link's frames holds of its stream; the frames and their spelling are this project's own.
+-- What a reader of the link's frames holds of its stream; the frames and their spelling are this
+-- project's own.
 use Rattle.std.specs.Prelude.{ℕ, List}
 
 -- the bytes that were fed and not given yet, and how many were given before them

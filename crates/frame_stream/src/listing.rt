@@ -1,11 +1,11 @@
-// The listing of a whole stream of frames: a line for each, then what stands behind them.
+//! The listing of a whole stream of frames: a line for each, then what stands behind them.
 
-ghost use Rattle.std.specs.Prelude.{◌≡◌, ◌++◌, ◌∷◌, [], IfOk, OnOk};
+ghost use Rattle.std.specs.Prelude.{◌≡◌, ◌++◌, ◌∷◌, [], IfOk};
 ghost use Rattle.transfer_frames.specs.FrameLines.{line};
 ghost use Rattle.frame_stream.specs.Listing.{IsListing, ListedOnce, OneListing, SomeListing};
 
 use std::alloc::{AllocError, Global};
-use transfer_frames::{DecodeFault, Frame, FrameCause, first_frame, frame_line};
+use transfer_frames::{DecodeFault, Frame, FrameCause, first_frame, with_frame_line};
 use wl_wire::Text;
 
 /// What stands behind the last whole frame of a stream.
@@ -26,13 +26,14 @@ pub struct Listing {
     pub stream_end: StreamEnd,
 }
 
-/// Adds the line of a frame and the byte that ends it. The frame isn't needed behind it and is dropped.
-fn put_line(alloc: Global, lines: &mut Text, place: u64, frame: Frame) -> Result<(), AllocError>
-    ensures { OnOk result (lines.new ≡ lines.old ++ (line place frame ++ 10 ∷ [])) }
+/// A text with the line of a frame and the byte that ends it behind. The frame isn't needed any
+/// more and is dropped.
+fn with_ended_line(lines: Text, place: u64, frame: Frame) -> Result<Text, AllocError>
+    ensures { IfOk result (λ text. text ≡ lines ++ (line place frame ++ 10 ∷ [])) }
 {
-    let text = frame_line(alloc, place, &frame)?;
-    lines.append(text.as_slice())?;
-    lines.push(b'\n')
+    let mut text = with_frame_line(lines, place, &frame)?;
+    text.push(b'\n')?;
+    Ok(text)
 }
 
 /// The frames of a whole stream, each as its line, up to the rest or the first fault.
@@ -48,7 +49,9 @@ pub fn list_frames(alloc: Global, bytes: &[u8]) -> Result<Listing, AllocError>
         let (_, rest) = bytes.split_at(place);
         match first_frame(alloc, rest) {
             Ok(Some((frame, length))) => {
-                put_line(alloc, &mut lines, place as u64, frame)?;
+                // Most of a long frame's line is two digits for each of its bytes.
+                lines.reserve(length.saturating_mul(2))?;
+                lines = with_ended_line(lines, place as u64, frame)?;
                 place += length;
             }
             Ok(None) => {

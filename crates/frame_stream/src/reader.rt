@@ -1,33 +1,32 @@
-// The reader that takes a stream of bytes, in whatever pieces it comes, apart into frames.
+//! The reader that takes a stream of bytes, in whatever pieces it comes, apart into frames.
 
 ghost use Rattle.std.specs.Prelude.{◌≡◌, ◌+◌, ◌-◌, ◌^◌, List, [], ◌++◌, length, min, Ok, None, IfOk, IfSome, OnOk, OnErr};
 ghost use Rattle.transfer_frames.specs.Grammar.{IsFrame};
 ghost use Rattle.transfer_frames.specs.Front.{front, Answers, given};
 
+use plain_lists::ByteQueue;
 use std::alloc::{AllocError, Global};
 use std::marker::Model;
 use transfer_frames::{DecodeFault, Frame, first_frame};
 
-/// A reader of frames, which contracts see as the bytes that it was fed and hasn't given yet, and the place of
-/// the first of them in the stream.
+/// A reader of frames, which contracts see as the bytes that it was fed and hasn't given yet, and
+/// the place of the first of them in the stream.
 #[derive(Drop)]
 pub struct FrameReader {
-    held: Vec<u8>,
-    // How many bytes at the front of `held` were given.
-    taken: usize,
+    unread: ByteQueue,
     place: u64,
     alloc: Global,
 }
 
 impl Model for FrameReader {
-    ghost use Rattle.std.specs.Prelude.{◌≤◌, length, drop};
+    ghost use Rattle.std.specs.Prelude.{◌<◌, ◌^◌};
     ghost use Rattle.frame_stream.specs.Stream.{Stream};
 
     ghost Value = { Stream };
 
-    ghost view = { λ reader. record { front = drop reader.taken reader.held.items; place = reader.place } };
+    ghost view = { λ reader. record { front = reader.unread; place = reader.place } };
 
-    ghost invariant = { λ reader. reader.taken ≤ length reader.held.items };
+    ghost invariant = { λ reader. reader.place < 2 ^ 64 };
 }
 
 impl FrameReader {
@@ -36,14 +35,14 @@ impl FrameReader {
         ensures { result ≡ record { front = []; place = 0 } }
     {
         FrameReader {
-            held: Vec::new(alloc),
-            taken: 0,
+            unread: ByteQueue::new(alloc),
             place: 0,
             alloc,
         }
     }
 
-    /// How many bytes of the stream were given, those before the front; it stays at the greatest `u64`.
+    /// How many bytes of the stream were given, those before the front; it stays at the greatest
+    /// `u64`.
     pub fn place(&self) -> u64
         ensures { result ≡ self.now.place }
     {
@@ -55,30 +54,19 @@ impl FrameReader {
     /// # Errors
     /// Only where memory runs out; nothing is changed then.
     pub fn feed(&mut self, piece: &[u8]) -> Result<(), AllocError>
-        ensures ok { OnOk result (self.new ≡ record self.old { front = self.old.front ++ piece.now }) }
+        ensures ok { OnOk result
+            (self.new ≡ record self.old { front = self.old.front ++ piece.now }) }
         ensures err { OnErr result (self.new ≡ self.old) }
     {
-        self.drop_taken();
-        self.held.extend_from_slice(piece)
+        self.unread.feed(piece)
     }
 
-    // Drops the bytes that were given, once they are as many as those that are left: so each byte is moved at
-    // most once.
-    fn drop_taken(&mut self)
-        ensures { self.new ≡ self.old }
-    {
-        if self.held.len() - self.taken <= self.taken {
-            self.held.drain(..self.taken);
-            self.taken = 0;
-        }
-    }
-
-    /// Gives the frame at the front, or None where no whole frame stands there and its first word, if there,
-    /// isn't at fault.
+    /// Gives the frame at the front, or None where no whole frame stands there and its first word,
+    /// if there, isn't at fault.
     ///
     /// # Errors
-    /// `Frame` with the first fault at the front, again at each later call; `Memory` where a whole frame stands
-    /// there and memory runs out. Nothing is changed then.
+    /// `Frame` with the first fault at the front, again at each later call; `Memory` where a whole
+    /// frame stands there and memory runs out. Nothing is changed then.
     pub fn next_frame(&mut self) -> Result<Option<Frame>, DecodeFault>
         ensures exact { Answers result (front self.old.front) }
         ensures rest { self.old.front ≡ given result ++ self.new.front }
@@ -87,12 +75,10 @@ impl FrameReader {
         ensures none { result ≡ Ok None → self.new ≡ self.old }
         ensures err { OnErr result (self.new ≡ self.old) }
     {
-        let (_, front) = self.held.as_slice().split_at(self.taken);
-        match first_frame(self.alloc, front) {
-            Err(fault) => Err(fault),
-            Ok(None) => Ok(None),
-            Ok(Some((frame, length))) => {
-                self.taken += length;
+        match first_frame(self.alloc, self.unread.as_slice())? {
+            None => Ok(None),
+            Some((frame, length)) => {
+                self.unread.give(length);
                 self.place = self.place.saturating_add(length as u64);
                 Ok(Some(frame))
             }

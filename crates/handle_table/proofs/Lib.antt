@@ -1,2 +1,3 @@
-pub mod Places
-pub mod Rids
+mod Places
+mod Kept
+mod Rids

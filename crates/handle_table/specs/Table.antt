@@ -1,16 +1,18 @@
 -- The handles that one side passed, in order, and the rids that the other side opened. This project's own:
 -- the Wayland wire format sends a descriptor beside the stream and gives it no number.
-use Rattle.std.specs.Prelude.{ℕ, ◌+◌, Bool, true, false, ◌&&◌, ℤ, pos, negsuc, List, [], ◌∷◌, ◌++◌, Option, None, Some, option_map, length, position}
-use Rattle.std.specs.Ordering.{int_eq}
+use Rattle.std.specs.Prelude.{ℕ, ◌+◌, Bool, true, false, ◌&&◌, ℤ, pos, negsuc, List, [], ◌∷◌, ◌++◌, Option, None, Some, option_map, length, position, nat_lt, if◌then◌else◌}
+use Rattle.std.specs.Ordering.{int_cmp, int_eq}
 use Rattle.std.specs.Option.{option_or}
+use Rattle.std.specs.BTreeMap.{insert_entry}
 use Rattle.std.specs.Map.{lookup}
 use Rattle.wp_outside.specs.declared.kinds.Side.{Side}
 use Rattle.wp_outside.specs.declared.kinds.Side.TheVariants.{Near, Far}
 use Rattle.wp_outside.specs.declared.kinds.HandleKind.{HandleKind}
 use Rattle.wp_outside.specs.declared.kinds.HandleKind.TheVariants.{File, PipeWrite}
 use Rattle.handle_table.specs.declared.handles.Handle.{Handle}
+use Rattle.handle_table.specs.declared.handles.Seat.{Seat}
 
--- what one side knows of handles
+-- what one side knows of handles: the handles that it passed in order, and the rids that it keeps, rising
 pub record Table : Type 0 where
   pub side : Side
   pub passed : List Handle
@@ -48,23 +50,36 @@ rid_of_number table number =
     (rid_of_handle table (record { number = number; kind = PipeWrite }))
     (rid_of_handle table (record { number = number; kind = File }))
 
--- the rid that a handle is passed with, and whether that rid is new
-abbrev pub answer_at : Table → Option ℕ → ℤ × Bool
-answer_at table None = (rid_at table.side (length table.passed), true)
-answer_at table (Some place) = (rid_at table.side place, false)
+-- how many handles a side can pass: a rid has 32 bits
+abbrev pub most_handles : ℕ
+most_handles = 2147483647
 
--- what passing a handle answers
-abbrev pub pass_answer : Table → Handle → ℤ × Bool
-pass_answer table h = answer_at table (place_of table h)
+-- the seat at this place of the handles passed
+abbrev pub seat : Side → Bool → ℕ → Seat
+seat side is_new place = record { place = place; rid = rid_at side place; is_new = is_new }
 
--- the table after a look-up of a handle that is passed
-abbrev pub passed_at : Table → Handle → Option ℕ → Table
-passed_at table h None = record table { passed = table.passed ++ h ∷ [] }
-passed_at table h (Some place) = table
+-- the seat of a handle after a look-up of it: its own, else the next one while there is a rid left
+abbrev pub seat_found : Table → Option ℕ → Option Seat
+seat_found table (Some place) = Some (seat table.side false place)
+seat_found table None =
+    if nat_lt (length table.passed) most_handles then Some (seat table.side true (length table.passed)) else None
+
+-- the seat that a handle has, or has once it is passed
+abbrev pub seat_for : Table → Handle → Option Seat
+seat_for table h = seat_found table (place_of table h)
+
+-- what passing a handle answers of its seat: the rid, and whether it is new
+abbrev pub answer_of : Seat → ℤ × Bool
+answer_of at = (at.rid, at.is_new)
+
+-- the handles passed, after a look-up of one that is passed now
+abbrev pub passed_found : List Handle → Handle → Option ℕ → List Handle
+passed_found passed h (Some place) = passed
+passed_found passed h None = passed ++ h ∷ []
 
 -- the table after a handle was passed
 abbrev pub after_pass : Table → Handle → Table
-after_pass table h = passed_at table h (place_of table h)
+after_pass table h = record table { passed = passed_found table.passed h (place_of table h) }
 
 -- the kind of a rid that is kept
 abbrev pub kind_of_rid : Table → ℤ → Option HandleKind
@@ -72,7 +87,7 @@ kind_of_rid table rid = lookup (int_eq rid) table.kept
 
 -- the table that keeps one more rid
 abbrev pub after_took : Table → ℤ → HandleKind → Table
-after_took table rid kind = record table { kept = table.kept ++ (rid, kind) ∷ [] }
+after_took table rid kind = record table { kept = insert_entry int_cmp table.kept rid kind }
 
 -- the table of a side that passed and kept nothing
 abbrev pub fresh_table : Side → Table

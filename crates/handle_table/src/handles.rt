@@ -1,4 +1,4 @@
-//! A handle of one side's peer.
+//! A handle of one side's peer, and the seat that a table gives it.
 
 use wp_outside::HandleKind;
 
@@ -10,4 +10,15 @@ pub struct Handle {
     pub number: i32,
     /// What the handle leads to.
     pub kind: HandleKind,
+}
+
+/// Where a handle stands among those that a side passed.
+#[derive(Clone, Copy, Debug, PartialEq, Eq)]
+pub struct Seat {
+    /// How many handles were passed for the first time before it.
+    pub place: usize,
+    /// Its rid.
+    pub rid: i32,
+    /// Whether it is yet to be passed for the first time.
+    pub is_new: bool,
 }

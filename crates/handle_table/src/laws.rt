@@ -1,15 +1,15 @@
 //! What holds of the rids of every table.
 
-ghost use Rattle.handle_table.specs.Laws.{OneHandlePerRid, PassAnswersRid, RidOutlastsPass, RidOutlastsTook, PassedOnceLasts, RidsAreDense};
+ghost use Rattle.handle_table.specs.Laws.{OneHandlePerRid, ForeseenIsPassed, RidOutlastsPass, RidOutlastsTook, SoundLasts, RidsAreDense, TookKeepsKind};
 
 /// Two handles with one rid are one handle.
 pub fn one_handle_per_rid()
     ensures { OneHandlePerRid }
 {}
 
-/// The rid that passing a handle answers is its rid from then on.
-pub fn pass_answers_rid()
-    ensures { PassAnswersRid }
+/// A handle that is passed has the seat that was foreseen for it.
+pub fn foreseen_is_passed()
+    ensures { ForeseenIsPassed }
 {}
 
 /// A handle keeps its rid, whatever is passed or kept later.
@@ -18,12 +18,17 @@ pub fn rid_outlasts()
     ensures took { RidOutlastsTook }
 {}
 
-/// No handle is counted twice among those passed.
-pub fn passed_once_lasts()
-    ensures { PassedOnceLasts }
+/// Each handle stands once among those passed, and the kept rids rise.
+pub fn sound_lasts()
+    ensures { SoundLasts }
 {}
 
 /// The rids have no gap and stand in the order of first passing.
 pub fn rids_are_dense()
     ensures { RidsAreDense }
+{}
+
+/// A rid that was taken has its kind from then on.
+pub fn took_keeps_kind()
+    ensures { TookKeepsKind }
 {}

@@ -3,13 +3,10 @@
 #![tactic(auto)]
 
 mod handles;
-mod laws;
+pub mod laws;
 mod tables;
 
-pub use handles::Handle;
-pub use laws::{
-    one_handle_per_rid, pass_answers_rid, passed_once_lasts, rid_outlasts, rids_are_dense,
-};
+pub use handles::{Handle, Seat};
 pub use tables::Handles;
 
 #[cfg(test)]

@@ -1,20 +1,23 @@
 -- One rest still to be written, and the three cases, mean the same.
-use Rattle.std.proofs.Common.{◌≡◌, ℕ, ◌<◌, ◌≤◌, List, [], ◌∷◌, ◌++◌, Option, Some, None, false, drop, length, refl, sym, ap, subst, ◌∙◌, arith, append_assoc, length-append, inl, inr, ◌⊎◌}
+use Rattle.std.proofs.Common.{◌≡◌, ℕ, ◌<◌, ◌≤◌, List, [], ◌∷◌, ◌++◌, Option, Some, None, false, max, drop, length, refl, sym, ap, subst, ◌∙◌, arith, append_assoc, length-append, inl, inr, ◌⊎◌}
 use Rattle.std.proofs.lemmas.Bool.{cases_lt}
 use Rattle.std.proofs.lemmas.List.{append-nil, append_cancel_left}
 use Rattle.std.proofs.lemmas.List.Elements.{filter-append, filter_map-append}
 use Rattle.std.specs.List.{AllByRecursion}
 use Rattle.std.specs.Option.{MatchOption}
+use Rattle.plain_lists.specs.Fronts.{IsFront}
+use Rattle.plain_lists.proofs.FrontLemmas.{IsFront_longer, IsFront_trans}
 use Rattle.transfer_frames.specs.declared.frame.Frame.{Frame}
 use Rattle.transfer_frames.specs.declared.frame.Frame.TheVariants.{Restart}
 use Rattle.transfer_frames.specs.Grammar.{IsFrame, spelling, role}
-use Rattle.pair_model.specs.Lines.{Begins}
-use Rattle.pair_model.specs.Wire.{spellings, counted, acks, reply, NoGreeting, Rise, is_counted, is_greeting, ack_in, Wrote}
+use Rattle.pair_model.specs.Rows.{spellings, counted, acks, told, reply, NoGreeting, Rise, is_counted, is_greeting, ack_in}
+use Rattle.pair_model.specs.Order.{told_before, Within, InTime}
+use Rattle.pair_model.specs.Wire.{Wrote}
 use Rattle.pair_model.specs.Cases.{MayFollow, PartOf, IsRest, Whole, ByCases}
 use Rattle.pair_model.specs.Laws.{SameByCases}
-use Rattle.pair_model.proofs.Fronts.{begins_trans, longer}
+use Rattle.pair_model.proofs.Orders.{told_before-append, within_front, none_early}
 use Rattle.pair_model.proofs.Came.{nothing_sent, no_bytes}
-use Rattle.pair_model.proofs.Refusals.{spellings_push}
+use Rattle.pair_model.proofs.Passing.{spellings_push}
 
 -- ---- from the front of a row of frames to the cases
 
@@ -37,7 +40,7 @@ record Cut (row : List Frame) (written : List ℕ) : Type 0 where
 
 part_first : (f : Frame) (fs : List Frame) (written left : List ℕ) → written ++ left ≡ spelling f ++ spellings fs → length written < length (spelling f) → Cut (f ∷ fs) written
 part_first f fs written left e l =
-    let b : Begins written (spelling f) = longer (spelling f) written (spellings fs) left (sym e) (omega arith) in
+    let b : IsFront written (spelling f) = IsFront_longer (spelling f) written (spellings fs) left (sym e) (omega arith) in
     record {
       before = [];
       after = f ∷ fs;
@@ -48,11 +51,11 @@ part_first f fs written left e l =
     }
 
 -- what is behind the first frame
-behind : (f : Frame) (x : List ℕ) (written left : List ℕ) → written ++ left ≡ spelling f ++ x → (b : Begins (spelling f) written) → b.rest ++ left ≡ x
+behind : (f : Frame) (x : List ℕ) (written left : List ℕ) → written ++ left ≡ spelling f ++ x → (b : IsFront (spelling f) written) → b.rest ++ left ≡ x
 behind f x written left e b =
     append_cancel_left (spelling f) (b.rest ++ left) x (sym (append_assoc (spelling f) b.rest left) ∙ ap (λ bytes. bytes ++ left) b.is ∙ e)
 
-cut_more : (f : Frame) (fs : List Frame) (written : List ℕ) (b : Begins (spelling f) written) → Cut fs b.rest → Cut (f ∷ fs) written
+cut_more : (f : Frame) (fs : List Frame) (written : List ℕ) (b : IsFront (spelling f) written) → Cut fs b.rest → Cut (f ∷ fs) written
 cut_more f fs written b c = record {
   before = f ∷ c.before;
   after = c.after;
@@ -69,7 +72,7 @@ cut_row (f ∷ fs) written left e = go (cases_lt (length written) (length (spell
     go : (length written < length (spelling f)) ⊎ (length (spelling f) ≤ length written) → ((w l : List ℕ) → w ++ l ≡ spellings fs → Cut fs w) → Cut (f ∷ fs) written
     go (inl short) again = part_first f fs written left e short
     go (inr long) again =
-        let b : Begins (spelling f) written = longer written (spelling f) left (spellings fs) e long in
+        let b : IsFront (spelling f) written = IsFront_longer written (spelling f) left (spellings fs) e long in
         cut_more f fs written b (again b.rest left (behind f (spellings fs) written left e b))
 
 -- ---- what may follow, by its front
@@ -82,23 +85,30 @@ rise_front : (low high : ℕ) (xs ys : List ℕ) → Rise low (xs ++ ys) high �
 rise_front low high [] ys h = tt
 rise_front low high (x ∷ xs) ys h = (h.0, h.1, rise_front x high xs ys h.2)
 
-order_front : (answer : Option ℕ) (made xs ys : List Frame) → MatchOption answer (xs ++ ys ≡ []) (λ p. Begins (counted (xs ++ ys)) (drop p made)) → MatchOption answer (xs ≡ []) (λ p. Begins (counted xs) (drop p made))
+order_front : (answer : Option ℕ) (made xs ys : List Frame) → MatchOption answer (xs ++ ys ≡ []) (λ p. IsFront (counted (xs ++ ys)) (drop p made)) → MatchOption answer (xs ≡ []) (λ p. IsFront (counted xs) (drop p made))
 order_front None made [] ys h = refl
 order_front None made (x ∷ xs) ys h = cc
 order_front (Some p) made xs ys h =
-    let front : Begins (counted xs) (counted (xs ++ ys)) = record { rest = counted ys; is = sym (filter-append (λ frame. is_counted (role frame)) xs ys) } in
-    begins_trans front h
+    let front : IsFront (counted xs) (counted (xs ++ ys)) = record { rest = counted ys; is = sym (filter-append (λ frame. is_counted (role frame)) xs ys) } in
+    IsFront_trans front h
 
-may_front : {received upto : ℕ} {made seen : List Frame} (xs ys sent : List Frame) → sent ≡ xs ++ ys → MayFollow received upto made seen sent → MayFollow received upto made seen xs
-may_front {received} {upto} {made} {seen} xs ys sent e h = record {
+time_front : (answer : Option ℕ) (due : List ℕ) (received : ℕ) (xs ys : List Frame) → MatchOption answer (Unit {0}) (λ p. InTime due received p (xs ++ ys)) → MatchOption answer (Unit {0}) (λ p. InTime due received p xs)
+time_front None due received xs ys h = tt
+time_front (Some p) due received xs ys h =
+    within_front (λ count taken_after. taken_after ≤ count) (told_before received xs) (told_before (max received (told xs)) ys) (drop p due)
+    (subst (λ (counts : List ℕ). Within (λ count taken_after. taken_after ≤ count) counts (drop p due)) (told_before-append received xs ys) h)
+
+may_front : {received upto : ℕ} {made : List Frame} {due : List ℕ} {seen : List Frame} (xs ys sent : List Frame) → sent ≡ xs ++ ys → MayFollow received upto made due seen sent → MayFollow received upto made due seen xs
+may_front {received} {upto} {made} {due} {seen} xs ys sent e h = record {
   frames = all_front IsFrame xs ys (subst (λ (fs : List Frame). AllByRecursion IsFrame fs) e h.frames);
   greets = all_front (λ frame. is_greeting (role frame) ≡ false) xs ys (subst (λ (fs : List Frame). NoGreeting fs) e h.greets);
-  order = order_front (reply seen) made xs ys (subst (λ (fs : List Frame). MatchOption (reply seen) (fs ≡ []) (λ p. Begins (counted fs) (drop p made))) e h.order);
+  order = order_front (reply seen) made xs ys (subst (λ (fs : List Frame). MatchOption (reply seen) (fs ≡ []) (λ p. IsFront (counted fs) (drop p made))) e h.order);
   tells = rise_front received upto (acks xs) (acks ys) (subst (λ (counts : List ℕ). Rise received counts upto) (ap acks e ∙ filter_map-append (λ frame. ack_in (role frame)) xs ys) h.tells);
+  in_time = time_front (reply seen) due received xs ys (subst (λ (fs : List Frame). MatchOption (reply seen) (Unit {0}) (λ p. InTime due received p fs)) e h.in_time);
 }
 
-to_part : {received upto : ℕ} {made seen sent : List Frame} (before after : List Frame) (rest : List ℕ) → sent ≡ before ++ after → MayFollow received upto made seen sent → Part after rest → PartOf received upto made seen before rest
-to_part {received} {upto} {made} {seen} {sent} before after rest e h p = record {
+to_part : {received upto : ℕ} {made : List Frame} {due : List ℕ} {seen sent : List Frame} (before after : List Frame) (rest : List ℕ) → sent ≡ before ++ after → MayFollow received upto made due seen sent → Part after rest → PartOf received upto made due seen before rest
+to_part {received} {upto} {made} {due} {seen} {sent} before after rest e h p = record {
   frame = p.frame;
   more = p.more;
   bytes = p.bytes;
@@ -106,19 +116,19 @@ to_part {received} {upto} {made} {seen} {sent} before after rest e h p = record 
   follows = may_front (before ++ p.frame ∷ []) p.frames sent (e ∙ ap (λ fs. before ++ fs) p.after_is ∙ sym (append_assoc before (p.frame ∷ []) p.frames)) h;
 }
 
-to_cases : (token : List ℕ) (connection received upto : ℕ) (made seen : List Frame) (written : List ℕ) → Wrote token connection received upto made seen written → ByCases token connection received upto made seen written
-to_cases token connection received upto made seen written w = record { greeting = w.frames.0; cases = go (cases_lt (length written) (length (spelling greeting))) }
+to_cases : (token : List ℕ) (connection received upto : ℕ) (made : List Frame) (due : List ℕ) (seen : List Frame) (written : List ℕ) → Wrote token connection received upto made due seen written → ByCases token connection received upto made due seen written
+to_cases token connection received upto made due seen written w = record { greeting = w.frames.0; cases = go (cases_lt (length written) (length (spelling greeting))) }
   where
     greeting : Frame
     greeting = Restart token connection received
 
-    may : MayFollow received upto made seen w.sent
-    may = record { frames = w.frames.1; greets = w.greets; order = w.order; tells = w.tells }
+    may : MayFollow received upto made due seen w.sent
+    may = record { frames = w.frames.1; greets = w.greets; order = w.order; tells = w.tells; in_time = w.in_time }
 
-    go : (length written < length (spelling greeting)) ⊎ (length (spelling greeting) ≤ length written) → Begins written (spelling greeting) ⊎ Whole (spelling greeting) received upto made seen written
-    go (inl short) = inl (longer (spelling greeting) written (spellings w.sent) w.left (sym w.bytes) (omega arith))
+    go : (length written < length (spelling greeting)) ⊎ (length (spelling greeting) ≤ length written) → IsFront written (spelling greeting) ⊎ Whole (spelling greeting) received upto made due seen written
+    go (inl short) = inl (IsFront_longer (spelling greeting) written (spellings w.sent) w.left (sym w.bytes) (omega arith))
     go (inr long) =
-        let b : Begins (spelling greeting) written = longer written (spelling greeting) w.left (spellings w.sent) w.bytes long in
+        let b : IsFront (spelling greeting) written = IsFront_longer written (spelling greeting) w.left (spellings w.sent) w.bytes long in
         let c : Cut w.sent b.rest = cut_row w.sent b.rest w.left (behind greeting (spellings w.sent) written w.left w.bytes b) in
         inr (record {
           sent = c.before;
@@ -130,9 +140,9 @@ to_cases token connection received upto made seen written w = record { greeting 
 
 -- ---- from the cases to a front of a row
 
-from_greeting : (token : List ℕ) (connection received upto : ℕ) (made seen : List Frame) (written : List ℕ) → IsFrame (Restart token connection received) → Begins written (spelling (Restart token connection received))
-    → Wrote token connection received upto made seen written
-from_greeting token connection received upto made seen written h b = record {
+from_greeting : (token : List ℕ) (connection received upto : ℕ) (made : List Frame) (due : List ℕ) (seen : List Frame) (written : List ℕ) → IsFrame (Restart token connection received) → IsFront written (spelling (Restart token connection received))
+    → Wrote token connection received upto made due seen written
+from_greeting token connection received upto made due seen written h b = record {
   sent = [];
   left = b.rest;
   bytes = b.is ∙ sym (append-nil (spelling (Restart token connection received)));
@@ -140,16 +150,17 @@ from_greeting token connection received upto made seen written h b = record {
   greets = tt;
   order = nothing_sent (reply seen) made;
   tells = tt;
+  in_time = none_early (reply seen) due received;
 }
 
-from_whole : (token : List ℕ) (connection received upto : ℕ) (made seen : List Frame) (written : List ℕ) → IsFrame (Restart token connection received)
-    → Whole (spelling (Restart token connection received)) received upto made seen written → Wrote token connection received upto made seen written
-from_whole token connection received upto made seen written h w = go w.ends
+from_whole : (token : List ℕ) (connection received upto : ℕ) (made : List Frame) (due : List ℕ) (seen : List Frame) (written : List ℕ) → IsFrame (Restart token connection received)
+    → Whole (spelling (Restart token connection received)) received upto made due seen written → Wrote token connection received upto made due seen written
+from_whole token connection received upto made due seen written h w = go w.ends
   where
     greeting : Frame
     greeting = Restart token connection received
 
-    go : IsRest received upto made seen w.sent w.rest → Wrote token connection received upto made seen written
+    go : IsRest received upto made due seen w.sent w.rest → Wrote token connection received upto made due seen written
     go (inl none) = record {
       sent = w.sent;
       left = [];
@@ -158,6 +169,7 @@ from_whole token connection received upto made seen written h w = go w.ends
       greets = w.follows.greets;
       order = w.follows.order;
       tells = w.follows.tells;
+      in_time = w.follows.in_time;
     }
     go (inr p) = record {
       sent = w.sent ++ p.frame ∷ [];
@@ -169,10 +181,11 @@ from_whole token connection received upto made seen written h w = go w.ends
       greets = p.follows.greets;
       order = p.follows.order;
       tells = p.follows.tells;
+      in_time = p.follows.in_time;
     }
 
 pub same_by_cases : SameByCases
-same_by_cases token connection received upto made seen written = (
-  to_cases token connection received upto made seen written,
-  λ c. elim c.cases [ inl b ↦ from_greeting token connection received upto made seen written c.greeting b | inr w ↦ from_whole token connection received upto made seen written c.greeting w ],
+same_by_cases token connection received upto made due seen written = (
+  to_cases token connection received upto made due seen written,
+  λ c. elim c.cases [ inl b ↦ from_greeting token connection received upto made due seen written c.greeting b | inr w ↦ from_whole token connection received upto made due seen written c.greeting w ],
 )

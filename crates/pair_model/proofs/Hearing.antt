@@ -11,15 +11,16 @@ use Rattle.transfer_frames.specs.Front.{front, Takes}
 use Rattle.transfer_frames.specs.Laws.{NoFrame}
 use Rattle.transfer_frames.proofs.FrontLaws.{front-spelled}
 use Rattle.pair_model.specs.declared.plain.PlainLine.{PlainLine}
-use Rattle.pair_model.specs.Lines.{Line, read_on}
-use Rattle.pair_model.specs.Wire.{spellings, counted, told, is_counted, count_in, accepted_below, told_below, Reads, Sees}
-use Rattle.pair_model.specs.Plain.{line_of, Rising, HearsLine, Hears, side_with}
-use Rattle.pair_model.proofs.Refusals.{spellings_push}
+use Rattle.pair_model.specs.Lines.{Line, read_on, Rising}
+use Rattle.pair_model.specs.Rows.{spellings, counted, told, is_counted, count_in, Reads}
+use Rattle.pair_model.specs.Wire.{accepted_below, told_below, Sees}
+use Rattle.pair_model.specs.Plain.{line_of, HearsLine, Hears, side_with}
+use Rattle.pair_model.proofs.Passing.{spellings_push}
 use Rattle.pair_model.proofs.Rows.{spelling_long}
-use Rattle.pair_model.proofs.Moves.{each_push, told_push}
+use Rattle.pair_model.proofs.Growing.{each_push, told_push}
 use Rattle.pair_model.proofs.LastLine.{read_last, read_before, read_none}
 use Rattle.pair_model.proofs.Seen.{accepted_past, told_past}
-use Rattle.pair_model.proofs.Standing.{seen_with, with_here, with_other, accepted_with, told_with, same_reads}
+use Rattle.pair_model.proofs.Seeing.{seen_with, with_here, with_other, accepted_with, told_with, same_reads}
 
 -- ---- one connection
 

@@ -6,7 +6,7 @@ use Rattle.transfer_frames.specs.declared.frame.Frame.{Frame}
 use Rattle.transfer_frames.specs.Grammar.{IsFrame, spelling}
 use Rattle.transfer_frames.proofs.FrameLaws.{length-spelling}
 use Rattle.transfer_frames.proofs.FrontLaws.{none_begins}
-use Rattle.pair_model.specs.Wire.{spellings}
+use Rattle.pair_model.specs.Rows.{spellings}
 
 -- no spelling begins another
 pub one_spelling : (f g : Frame) (x y : List ℕ) → IsFrame f → IsFrame g → spelling f ++ x ≡ spelling g ++ y → f ≡ g

@@ -6,8 +6,9 @@ use Rattle.transfer_frames.specs.declared.frame.Frame.{Frame}
 use Rattle.transfer_frames.specs.Grammar.{IsFrame, spelling}
 use Rattle.pair_model.proofs.Rows.{one_spelling, spelling_long}
 use Rattle.transfer_frames.proofs.FrontLaws.{one_row}
-use Rattle.pair_model.specs.Lines.{Side, read_on}
-use Rattle.pair_model.specs.Wire.{spellings, told, accepted_below, told_below, Reads, Sees, stop_on}
+use Rattle.pair_model.specs.Lines.{SideRecord, read_on}
+use Rattle.pair_model.specs.Rows.{spellings, told, Reads}
+use Rattle.pair_model.specs.Wire.{accepted_below, told_below, Sees, stop_on}
 use Rattle.pair_model.proofs.Came.{no_read}
 use Rattle.pair_model.proofs.Rows.{same_rest}
 
@@ -32,19 +33,19 @@ one_seen None read fs gs h k = (one_row fs gs h.rest k.rest h.frames k.frames h.
 one_seen (Some place) read fs gs h k = one_length fs gs h.rest k.rest h.frames k.frames (sym h.ends ∙ k.ends) (sym h.bytes ∙ k.bytes)
 
 -- two rows by connection of the same frames
-same_accepted : (seen other : ℕ → List Frame) → ((c : ℕ) → seen c ≡ other c) → (c : ℕ) → accepted_below seen c ≡ accepted_below other c
+pub same_accepted : (seen other : ℕ → List Frame) → ((c : ℕ) → seen c ≡ other c) → (c : ℕ) → accepted_below seen c ≡ accepted_below other c
 same_accepted seen other h zero = refl
 same_accepted seen other h (suc c) = let e = same_accepted seen other h c in let k = h c in cc
 
-same_told : (seen other : ℕ → List Frame) → ((c : ℕ) → seen c ≡ other c) → (c : ℕ) → told_below seen c ≡ told_below other c
+pub same_told : (seen other : ℕ → List Frame) → ((c : ℕ) → seen c ≡ other c) → (c : ℕ) → told_below seen c ≡ told_below other c
 same_told seen other h zero = refl
 same_told seen other h (suc c) = let e = same_told seen other h c in let k = h c in cc
 
 -- past the last connection nothing is seen
-pub past_seen : {side : Side} {bound : ℕ} {seen : ℕ → List Frame} → Sees side bound seen → (c : ℕ) → bound ≤ c → seen c ≡ []
+pub past_seen : {side : SideRecord} {bound : ℕ} {seen : ℕ → List Frame} → Sees side bound seen → (c : ℕ) → bound ≤ c → seen c ≡ []
 past_seen {side} {bound} {seen} h c l = no_read (read_on c side.lines) (h.reads c) (h.past c l)
 
-pub accepted_past : {side : Side} {bound : ℕ} {seen : ℕ → List Frame} → Sees side bound seen → (more : ℕ) → accepted_below seen (bound + more) ≡ accepted_below seen bound
+pub accepted_past : {side : SideRecord} {bound : ℕ} {seen : ℕ → List Frame} → Sees side bound seen → (more : ℕ) → accepted_below seen (bound + more) ≡ accepted_below seen bound
 accepted_past {side} {bound} {seen} h zero = let e : bound + zero ≡ bound = omega arith in ap (accepted_below seen) e
 accepted_past {side} {bound} {seen} h (suc more) =
     let nothing : seen (bound + more) ≡ [] = past_seen h (bound + more) (omega arith) in
@@ -52,7 +53,7 @@ accepted_past {side} {bound} {seen} h (suc more) =
     let e : bound + suc more ≡ suc (bound + more) = omega arith in
     ap (accepted_below seen) e ∙ step
 
-pub told_past : {side : Side} {bound : ℕ} {seen : ℕ → List Frame} → Sees side bound seen → (more : ℕ) → told_below seen (bound + more) ≡ told_below seen bound
+pub told_past : {side : SideRecord} {bound : ℕ} {seen : ℕ → List Frame} → Sees side bound seen → (more : ℕ) → told_below seen (bound + more) ≡ told_below seen bound
 told_past {side} {bound} {seen} h zero = let e : bound + zero ≡ bound = omega arith in ap (told_below seen) e
 told_past {side} {bound} {seen} h (suc more) =
     let nothing : told (seen (bound + more)) ≡ 0 = ap told (past_seen h (bound + more) (omega arith)) in
@@ -61,13 +62,13 @@ told_past {side} {bound} {seen} h (suc more) =
     ap (told_below seen) e ∙ step
 
 -- so what was accepted, and the greatest count told, are one thing each
-pub one_accepted : {side : Side} {b d : ℕ} {seen other : ℕ → List Frame} → Sees side b seen → Sees side d other → accepted_below seen b ≡ accepted_below other d
+pub one_accepted : {side : SideRecord} {b d : ℕ} {seen other : ℕ → List Frame} → Sees side b seen → Sees side d other → accepted_below seen b ≡ accepted_below other d
 one_accepted {side} {b} {d} {seen} {other} h k =
     let same : (c : ℕ) → seen c ≡ other c = λ c. one_seen (stop_on c side.stop) (read_on c side.lines) (seen c) (other c) (h.reads c) (k.reads c) in
     let e : b + d ≡ d + b = omega arith in
     sym (accepted_past h d) ∙ ap (accepted_below seen) e ∙ same_accepted seen other same (d + b) ∙ accepted_past k b
 
-pub one_told : {side : Side} {b d : ℕ} {seen other : ℕ → List Frame} → Sees side b seen → Sees side d other → told_below seen b ≡ told_below other d
+pub one_told : {side : SideRecord} {b d : ℕ} {seen other : ℕ → List Frame} → Sees side b seen → Sees side d other → told_below seen b ≡ told_below other d
 one_told {side} {b} {d} {seen} {other} h k =
     let same : (c : ℕ) → seen c ≡ other c = λ c. one_seen (stop_on c side.stop) (read_on c side.lines) (seen c) (other c) (h.reads c) (k.reads c) in
     let e : b + d ≡ d + b = omega arith in

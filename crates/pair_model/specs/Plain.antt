@@ -1,30 +1,29 @@
 -- What a side of a link, which is this project's own, heard from the other, as its lines tell it.
-use Rattle.std.specs.Prelude.{◌≡◌, ℕ, ◌≤◌, suc, List, [], ◌∷◌, ◌++◌, None, max}
+use Rattle.std.specs.Prelude.{◌≡◌, ℕ, List, ◌++◌, None, max}
 use Rattle.transfer_frames.specs.declared.frame.Frame.{Frame}
 use Rattle.pair_model.specs.declared.plain.PlainLine.{PlainLine}
-use Rattle.pair_model.specs.Lines.{Line, Side}
-use Rattle.pair_model.specs.Wire.{counted, told, accepted_below, told_below, Reads, Sees}
+use Rattle.pair_model.specs.Lines.{Line, SideRecord}
+use Rattle.pair_model.specs.Rows.{counted, told, Reads}
+use Rattle.pair_model.specs.Wire.{accepted_below, told_below, Sees}
+use Rattle.pair_model.specs.StepLaws.{side_new}
 
 abbrev pub line_of : PlainLine → Line
 line_of line = record { connection = line.connection; written = line.written; read = line.read }
 
--- connection numbers that rise, the first one not below a number
-abbrev pub Rising : ℕ → List Line → Type 0
-Rising least [] = Unit {0}
-Rising least (line ∷ lines) = (least ≤ line.connection) × Rising (suc line.connection) lines
-
 -- The bytes read on one connection add their counted frames, and the greatest count told in them.
-pub record HearsLine (read : List ℕ) (frames : List Frame) (acknowledged : ℕ) (more : List Frame) (most : ℕ) : Type 0 where
+pub record HearsLine (read : List ℕ) (frames : List Frame) (acknowledged : ℕ) (more : List Frame)
+    (most : ℕ) : Type 0 where
   pub seen : List Frame
   pub reads : Reads None read seen
   pub frames_are : more ≡ frames ++ counted seen
   pub most_is : most ≡ max acknowledged (told seen)
 
--- a side that has these lines, and made and took nothing
-abbrev pub side_with : List Line → Side
-side_with lines = record { taken = []; made = []; lines = lines; stop = None; accepted = 0; acknowledged = 0 }
+-- a side that has these lines, and made nothing
+abbrev pub side_with : List Line → SideRecord
+side_with lines = record side_new { lines = lines }
 
--- These are the frames that a side with these lines accepted, and the greatest count that it was told.
+-- These are the frames that a side with these lines accepted, and the greatest count that it was
+-- told.
 pub record Hears (lines : List Line) (frames : List Frame) (acknowledged : ℕ) : Type 0 where
   pub seen : ℕ → List Frame
   pub bound : ℕ

@@ -1,9 +1,10 @@
-// What a side accepted and what it was told, computed from the bytes that it read, frame by frame.
+//! What a side accepted and what it was told, computed from the bytes that it read, frame by frame.
 
 ghost use Rattle.std.specs.Prelude.{◌≡◌, ◌++◌, List, [], ◌∷◌, max, map, IfOk, OnOk};
 ghost use Rattle.transfer_frames.specs.Grammar.{role};
-ghost use Rattle.pair_model.specs.Wire.{counted, count_in};
-ghost use Rattle.pair_model.specs.Plain.{line_of, HearsLine, Hears, Rising};
+ghost use Rattle.pair_model.specs.Rows.{counted, count_in};
+ghost use Rattle.pair_model.specs.Lines.{Rising};
+ghost use Rattle.pair_model.specs.Plain.{line_of, HearsLine, Hears};
 
 use std::alloc::{AllocError, Global};
 use transfer_frames::{DecodeFault, Frame, FrameRole, first_frame, part_of};
@@ -45,10 +46,12 @@ impl Heard {
         Ok(())
     }
 
-    /// Takes the whole frames of the bytes read on one connection, up to the first place where none stands.
+    /// Takes the whole frames of the bytes read on one connection, up to the first place where none
+    /// stands.
     #[tactic(auto, using(crate::proofs::Hearing::hears_first, crate::proofs::Hearing::hears_more, crate::proofs::Hearing::takes_some, crate::proofs::Hearing::heard_none, crate::proofs::Hearing::heard_fault))]
     fn take_line(&mut self, alloc: Global, read: &[u8]) -> Result<(), AllocError>
-        ensures { OnOk result (HearsLine read.now self.old.frames.items self.old.acknowledged self.new.frames.items self.new.acknowledged) }
+        ensures { OnOk result (HearsLine read.now self.old.frames.items self.old.acknowledged
+            self.new.frames.items self.new.acknowledged) }
     {
         let mut rest = read;
         'frames: loop {
@@ -66,9 +69,9 @@ impl Heard {
     }
 }
 
-/// What a side with these lines heard: the counted frames that it accepted, connection by connection, and
-/// the greatest count that it was told. A connection is read up to the first place where no whole frame
-/// stands.
+/// What a side with these lines heard: the counted frames that it accepted, connection by
+/// connection, and the greatest count that it was told. A connection is read up to the first place
+/// where no whole frame stands.
 ///
 /// # Errors
 /// Only where memory runs out.

@@ -7,10 +7,11 @@ use Rattle.wl_tables.specs.declared.way.Way.{Way}
 use Rattle.wl_tables.specs.declared.way.Way.TheVariants.{Request}
 use Rattle.wl_objects.specs.Entries.{Tracked, first_objects}
 use Rattle.wl_objects.specs.Registry.{first_state, visible, state_after}
-use Rattle.wl_objects.specs.Tracking.{Step, step, track}
+use Rattle.wl_objects.specs.Tracking.{Admission, step, track}
 use Rattle.wp_outside.specs.declared.kinds.Side.{Side}
 use Rattle.wp_outside.specs.declared.kinds.Side.TheVariants.{Near, Far}
-use Rattle.replay_model.specs.Halves.{Half, Pair, own_way, heard_way, of_way, taken_by, given_by, made_by}
+use Rattle.replay_model.specs.Halves.{Half, Pair, heard_way, of_way, taken_by, given_by, made_by}
+use Rattle.wl_tables.specs.Ways.{own_way}
 use Rattle.replay_model.specs.Moves.{Move, Moves, MovesAll, Takes, has_some}
 use Rattle.replay_model.specs.Passing.{pass_all, or_refused, refusal}
 use Rattle.replay_model.specs.Rows.{frame_of, frames_of, whole_in}
@@ -70,7 +71,7 @@ heard_keeps_made laws side order objects (message ∷ messages) known =
     (λ done steps. heard_keeps_made laws side (order ++ (heard_way side, message) ∷ []) done.objects messages (tracked_more laws (heard_way side) order objects message done known steps) ∙ heard_not_made laws side order message objects done known steps)
   where
     by_refusal : (r : Option Refusal) → refusal order (heard_way side) message ≡ r
-        → ((done : Step) → step (heard_way side) objects message ≡ Ok done → made_of side (pass_all (heard_way side) (order ++ (heard_way side, message) ∷ []) messages).order ≡ made_of side order)
+        → ((done : Admission) → step (heard_way side) objects message ≡ Ok done → made_of side (pass_all (heard_way side) (order ++ (heard_way side, message) ∷ []) messages).order ≡ made_of side order)
         → made_of side (or_refused r order (pass_all (heard_way side) (order ++ (heard_way side, message) ∷ []) messages)).order ≡ made_of side order
     by_refusal None is others =
         let it = goes (heard_way side) (step (heard_way side) objects message) (sym (refusal_known laws (heard_way side) order objects message known) ∙ is) in

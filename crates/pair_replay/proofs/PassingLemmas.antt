@@ -1,18 +1,24 @@
 -- One message of the Wayland protocol passes a proxy, and what the proxy keeps stays what the order of the messages says.
-use Rattle.std.proofs.Common.{◌≡◌, ℕ, List, [], ◌∷◌, ◌++◌, Bool, true, false, Some, None, Ok, Err, refl, ap, ◌∙◌, sym, subst, length, length-append, arith, cond}
+use Rattle.std.proofs.Common.{◌≡◌, ℕ, List, [], ◌∷◌, ◌++◌, Bool, true, false, Option, Some, None, Result, Ok, Err, refl, ap, ◌∙◌, sym, subst, length, length-append, arith, cond}
 use Rattle.std.specs.Prelude.{option_to_list, is_some}
 use Rattle.wl_tables.specs.Messages.{handle_kind}
 use Rattle.wl_tables.specs.declared.interface.Interface.{Interface}
 use Rattle.wl_tables.specs.declared.way.Way.{Way}
 use Rattle.wl_tables.specs.declared.way.Way.TheVariants.{Request, Event}
 use Rattle.wl_objects.specs.Entries.{Tracked, first_objects}
-use Rattle.wl_objects.specs.Tracking.{Step, step, track, is_event}
+use Rattle.wl_objects.specs.Tracking.{Admission, step, track}
+use Rattle.wl_tables.specs.Ways.{is_event}
 use Rattle.wl_objects.specs.Registry.{ObjectsState, first_state, state_after, view}
-use Rattle.wl_objects.specs.ObjectLaws.{viewed_in}
+use Rattle.wl_objects.specs.Answering.{interface_in}
+use Rattle.wl_objects.specs.ObjectLaws.{viewed_in, PassedByTheTable}
 use Rattle.wl_objects.specs.declared.passed.Passed.{Passed}
+use Rattle.wl_wire.specs.Wire.{opcode_of}
+use Rattle.wl_wire.specs.declared.faults.ObjectFault.{ObjectFault}
+use Rattle.wp_outside.specs.declared.kinds.HandleKind.{HandleKind}
 use Rattle.wp_outside.specs.declared.kinds.Side.{Side}
 use Rattle.wp_outside.specs.declared.kinds.Side.TheVariants.{Near, Far}
-use Rattle.replay_model.specs.Halves.{of_way, own_way, heard_way}
+use Rattle.replay_model.specs.Halves.{of_way, heard_way}
+use Rattle.wl_tables.specs.Ways.{own_way}
 use Rattle.replay_model.specs.Passing.{Passage, pass_all, or_refused, refusal, refusal_of, received_in}
 use Rattle.replay_model.specs.Rows.{frames_of}
 use Rattle.replay_model.specs.declared.ends.Refusal.{Refusal}
@@ -26,30 +32,53 @@ use Rattle.pair_replay.specs.declared.halts.Halt.TheVariants as halts
 use Rattle.pair_replay.specs.declared.passing.Passing.{Passing}
 use Rattle.pair_replay.proofs.OrderLemmas.{frames_append, messages_append, of_way_own, heard_not_own, tracked_more, refusal_known, own_not_received, heard_received, heard_not_made, own_made}
 
-pub no_handle : (way : Way) (it : Passed) (objects : Tracked) → handle_kind it.interface (is_event way) it.opcode ≡ None → refusal_of way (Ok (record { passed = it; objects = objects })) ≡ None
-no_handle way it objects none = ap (λ h. cond (is_some h) (Some HandleMissing) None) none
+-- what tracking without arguments tells
+interface_told : (told : Result Admission ObjectFault) (interface : Interface) (after : Tracked) → interface_in told ≡ Ok (interface, after)
+    → (done : Admission) × (told ≡ Ok done) × (interface ≡ done.passed.interface) × (after ≡ done.objects)
+interface_told (Ok done) interface after is =
+    let same : ◌≡◌ {A = Interface × Tracked} (interface, after) (done.passed.interface, done.objects) = cc is in
+    (done, refl, ap (λ it. it.0) same, ap (λ it. it.1) same)
+interface_told (Err fault) interface after is = absurd (cc is)
+
+-- a message that is tracked without its arguments, and the handle that it carries
+module _ (by_table : PassedByTheTable) (way : Way) (objects after : Tracked) (message : List ℕ) (interface : Interface) (tracked : interface_in (step way objects message) ≡ Ok (interface, after)) where
+  pub tracked_as : (done : Admission) × (step way objects message ≡ Ok done) × (interface ≡ done.passed.interface) × (after ≡ done.objects)
+  tracked_as = interface_told (step way objects message) interface after tracked
+
+  kind_as : (kind : Option HandleKind) → kind ≡ handle_kind interface (is_event way) (opcode_of message) → refusal_of way (step way objects message) ≡ cond (is_some kind) (Some HandleMissing) None
+  kind_as kind is =
+      let opcode = (by_table way objects message tracked_as.0 tracked_as.1).opcode in
+      let own : handle_kind tracked_as.0.passed.interface (is_event way) tracked_as.0.passed.opcode ≡ kind =
+      ap (λ i. handle_kind i (is_event way) tracked_as.0.passed.opcode) (sym tracked_as.2) ∙ ap (handle_kind interface (is_event way)) opcode ∙ sym is in
+      ap (refusal_of way) tracked_as.1 ∙ ap (λ h. cond (is_some h) (Some HandleMissing) None) own
+
+  pub no_handle : None ≡ handle_kind interface (is_event way) (opcode_of message) → refusal_of way (step way objects message) ≡ None
+  no_handle is = kind_as None is
+
+  pub a_handle : (kind : HandleKind) → Some kind ≡ handle_kind interface (is_event way) (opcode_of message) → refusal_of way (step way objects message) ≡ Some HandleMissing
+  a_handle kind is = kind_as (Some kind) is
 
 -- the objects as they are viewed behind the messages that passed
-viewed : (order : List (Way × List ℕ)) (state : ObjectsState) (done : Step) → state.tracked ≡ done.objects → state.hidden ≡ (state_after first_state order).hidden → state ≡ viewed_in first_state order done
+viewed : (order : List (Way × List ℕ)) (state : ObjectsState) (done : Admission) → state.tracked ≡ done.objects → state.hidden ≡ (state_after first_state order).hidden → state ≡ viewed_in first_state order done
 viewed order state done tracked hidden =
     ap (λ t. record { tracked = t; hidden = state.hidden }) tracked ∙ ap (λ h. record { tracked = done.objects; hidden = h }) hidden
 
 -- ---- a message of the own peer
 
-hidden_own : (laws : OrderLaws) (side : Side) (order : List (Way × List ℕ)) (message : List ℕ) (state : ObjectsState) (objects : Tracked) (done : Step) (hidden : _)
+hidden_own : (laws : OrderLaws) (side : Side) (order : List (Way × List ℕ)) (message : List ℕ) (state : ObjectsState) (objects : Tracked) (done : Admission) (hidden : _)
     → track first_objects order ≡ Ok objects → step (own_way side) objects message ≡ Ok done → state.tracked ≡ done.objects → HiddenAs side state.hidden order
     → hidden ≡ (seen_of side state message).hidden → HiddenAs side hidden (order ++ (own_way side, message) ∷ [])
 hidden_own laws Near order message state objects done hidden known steps tracked before is = tt
 hidden_own laws Far order message state objects done hidden known steps tracked before is =
     is ∙ ap (λ s. (view s message).hidden) (viewed order state done tracked before) ∙ sym (ap (λ s. s.hidden) (laws.event first_state objects order message done known steps).1)
 
-made_own : (laws : OrderLaws) (side : Side) (order : List (Way × List ℕ)) (message : List ℕ) (state : ObjectsState) (objects : Tracked) (done : Step)
+made_own : (laws : OrderLaws) (side : Side) (order : List (Way × List ℕ)) (message : List ℕ) (state : ObjectsState) (objects : Tracked) (done : Admission)
     → track first_objects order ≡ Ok objects → step (own_way side) objects message ≡ Ok done → state.tracked ≡ done.objects → HiddenAs side state.hidden order
     → made_of side (order ++ (own_way side, message) ∷ []) ≡ made_of side order ++ option_to_list (seen_of side state message).shown
 made_own laws Near order message state objects done known steps tracked before = of_way_own Request order message
 made_own laws Far order message state objects done known steps tracked before = own_made laws Far order message state objects done known steps (viewed order state done tracked before)
 
-pub took_shows : (laws : OrderLaws) (side : Side) (order : List (Way × List ℕ)) (message : List ℕ) (mid new : Passing) (objects : Tracked) (done : Step)
+pub took_shows : (laws : OrderLaws) (side : Side) (order : List (Way × List ℕ)) (message : List ℕ) (mid new : Passing) (objects : Tracked) (done : Admission)
     → track first_objects order ≡ Ok objects → step (own_way side) objects message ≡ Ok done → mid.objects.tracked ≡ done.objects → HiddenAs side mid.objects.hidden order
     → Shows side mid order → TookIn mid new message → Shows side new (order ++ (own_way side, message) ∷ [])
 took_shows laws side order message mid new objects done known steps tracked hidden shows took =
@@ -64,7 +93,7 @@ took_shows laws side order message mid new objects done known steps tracked hidd
       whole = subst (λ (ms : List (List ℕ)). AreMessages ms) (sym more) (messages_append (made_of side order) shown shows.whole took.whole);
     }
 
-pub took_knows : (laws : OrderLaws) (side : Side) (order : List (Way × List ℕ)) (message : List ℕ) (mid new : Passing) (objects : Tracked) (done : Step)
+pub took_knows : (laws : OrderLaws) (side : Side) (order : List (Way × List ℕ)) (message : List ℕ) (mid new : Passing) (objects : Tracked) (done : Admission)
     → track first_objects order ≡ Ok objects → step (own_way side) objects message ≡ Ok done → mid.objects.tracked ≡ done.objects → HiddenAs side mid.objects.hidden order
     → mid.side ≡ side → TookIn mid new message → Knows side new (order ++ (own_way side, message) ∷ [])
 took_knows laws side order message mid new objects done known steps tracked hidden beside took = record {
@@ -74,13 +103,13 @@ took_knows laws side order message mid new objects done known steps tracked hidd
 
 -- ---- a message of the other proxy
 
-hidden_heard : (laws : OrderLaws) (side : Side) (order : List (Way × List ℕ)) (message : List ℕ) (objects : Tracked) (done : Step) (hidden : _)
+hidden_heard : (laws : OrderLaws) (side : Side) (order : List (Way × List ℕ)) (message : List ℕ) (objects : Tracked) (done : Admission) (hidden : _)
     → track first_objects order ≡ Ok objects → step (heard_way side) objects message ≡ Ok done → HiddenAs side hidden order → HiddenAs side hidden (order ++ (heard_way side, message) ∷ [])
 hidden_heard laws Near order message objects done hidden known steps before = tt
 hidden_heard laws Far order message objects done hidden known steps before =
     before ∙ sym (ap (λ s. s.hidden) (laws.request first_state objects order message done known steps).1)
 
-pub gave_shows : (laws : OrderLaws) (side : Side) (order : List (Way × List ℕ)) (message : List ℕ) (mid new : Passing) (objects : Tracked) (done : Step) (interface : Interface)
+pub gave_shows : (laws : OrderLaws) (side : Side) (order : List (Way × List ℕ)) (message : List ℕ) (mid new : Passing) (objects : Tracked) (done : Admission) (interface : Interface)
     → track first_objects order ≡ Ok objects → step (heard_way side) objects message ≡ Ok done → interface ≡ done.passed.interface
     → Shows side mid order → Gave mid new (record { interface = interface; message = message }) → Shows side new (order ++ (heard_way side, message) ∷ [])
 gave_shows laws side order message mid new objects done interface known steps is shows gave =
@@ -95,7 +124,7 @@ gave_shows laws side order message mid new objects done interface known steps is
       whole = subst (λ (ms : List (List ℕ)). AreMessages ms) (sym same) shows.whole;
     }
 
-pub gave_knows : (laws : OrderLaws) (side : Side) (order : List (Way × List ℕ)) (message : List ℕ) (mid new : Passing) (objects : Tracked) (done : Step) (it : Received)
+pub gave_knows : (laws : OrderLaws) (side : Side) (order : List (Way × List ℕ)) (message : List ℕ) (mid new : Passing) (objects : Tracked) (done : Admission) (it : Received)
     → track first_objects order ≡ Ok objects → step (heard_way side) objects message ≡ Ok done → mid.objects.tracked ≡ done.objects → HiddenAs side mid.objects.hidden order
     → Gave mid new it → Knows side new (order ++ (heard_way side, message) ∷ [])
 gave_knows laws side order message mid new objects done it known steps tracked hidden gave = record {
@@ -133,7 +162,7 @@ own_or_heard P own heard Far Event = own Far
 abbrev Delivers : Bool → Passing → Passing → Interface → List ℕ → Type 0
 Delivers own mid new interface message = (own ≡ true → TookIn mid new message) × (own ≡ false → Gave mid new (record { interface = interface; message = message }))
 
-abbrev Delivered : Passing → Passing → Interface → List ℕ → List (Way × List ℕ) → Tracked → Step → Side → Way → Bool → Type 0
+abbrev Delivered : Passing → Passing → Interface → List ℕ → List (Way × List ℕ) → Tracked → Admission → Side → Way → Bool → Type 0
 Delivered mid new interface message order objects done side way own =
     Shows side mid order → HiddenAs side mid.objects.hidden order → step way objects message ≡ Ok done → Delivers own mid new interface message → Shows side new (order ++ (way, message) ∷ []) × Knows side new (order ++ (way, message) ∷ [])
 

@@ -6,7 +6,8 @@ use Rattle.wp_outside.specs.Lines.{Line}
 use Rattle.wp_outside.specs.declared.kinds.Direction.TheVariants.{Up, Down}
 use Rattle.wp_outside.specs.declared.kinds.Side.{Side}
 use Rattle.wp_outside.specs.declared.kinds.Side.TheVariants.{Near, Far}
-use Rattle.replay_model.specs.Halves.{Half, Pair, other, half_of, with_half, own_way, heard_way, given_by, taken_by, made_by}
+use Rattle.replay_model.specs.Halves.{Half, Pair, other, half_of, with_half, heard_way, given_by, taken_by, made_by}
+use Rattle.wl_tables.specs.Ways.{own_way}
 use Rattle.replay_model.specs.Moves.{Move, Moves, MovesAll, Take, Push, Pull, ConnectIfMade, Takes, Pulls, taking, with_pushed, frame_bytes, has_some, any_made}
 use Rattle.replay_model.specs.Passing.{pass_all}
 use Rattle.replay_model.specs.Rows.{frames_of, whole_in}

@@ -7,7 +7,8 @@ use Rattle.wl_wire.specs.Wire.{first, cut, cut_rest, cut_fault, fault_in}
 use Rattle.wl_wire.proofs.CuttingLaws.{cut-goes_on, cut-stops, cut-nothing}
 use Rattle.wl_tables.specs.declared.way.Way.{Way}
 use Rattle.wp_outside.specs.declared.kinds.Side.{Side}
-use Rattle.replay_model.specs.Halves.{Half, own_way, of_way, taken_by}
+use Rattle.replay_model.specs.Halves.{Half, of_way, taken_by}
+use Rattle.wl_tables.specs.Ways.{own_way}
 use Rattle.replay_model.specs.Moves.{taking, or_size}
 use Rattle.replay_model.specs.Passing.{pass_all, or_refused, refusal}
 use Rattle.replay_model.specs.declared.ends.Refusal.{Refusal}

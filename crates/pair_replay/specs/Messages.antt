@@ -4,7 +4,7 @@ use Rattle.std.specs.List.{AllByRecursion}
 use Rattle.wl_wire.specs.Wire.{IsMessage}
 use Rattle.wl_tables.specs.declared.way.Way.{Way}
 use Rattle.wl_tables.specs.declared.way.Way.TheVariants.{Request, Event}
-use Rattle.wl_objects.specs.Registry.{ObjectsState, View, Pair, first_state, state_after, view, visible}
+use Rattle.wl_objects.specs.Registry.{ObjectsState, View, RegistryGlobal, first_state, state_after, view, visible}
 use Rattle.wp_outside.specs.declared.kinds.Side.{Side}
 use Rattle.wp_outside.specs.declared.kinds.Side.TheVariants.{Near, Far}
 use Rattle.replay_model.specs.Halves.{of_way}
@@ -30,6 +30,6 @@ made_of Near order = of_way Request order
 made_of Far order = visible first_state order
 
 -- the globals that are not shown, which the far side alone keeps
-abbrev pub HiddenAs : Side → List Pair → List (Way × List ℕ) → Type 0
+abbrev pub HiddenAs : Side → List RegistryGlobal → List (Way × List ℕ) → Type 0
 HiddenAs Near hidden order = Unit {0}
 HiddenAs Far hidden order = hidden ≡ (state_after first_state order).hidden

@@ -6,9 +6,10 @@ use Rattle.wl_wire.specs.Wire.{cut, cut_rest, cut_fault}
 use Rattle.wl_tables.specs.declared.interface.Interface.{Interface}
 use Rattle.wl_tables.specs.declared.way.Way.{Way}
 use Rattle.wl_objects.specs.Entries.{Tracked, first_objects}
-use Rattle.wl_objects.specs.Tracking.{Step, track}
+use Rattle.wl_objects.specs.Tracking.{Admission, track}
 use Rattle.wp_outside.specs.declared.kinds.Side.{Side}
-use Rattle.replay_model.specs.Halves.{of_way, own_way, heard_way}
+use Rattle.replay_model.specs.Halves.{of_way, heard_way}
+use Rattle.wl_tables.specs.Ways.{own_way}
 use Rattle.replay_model.specs.Moves.{or_size}
 use Rattle.replay_model.specs.Passing.{Passage, pass_all, refusal_of, received_in}
 use Rattle.replay_model.specs.Rows.{frames_of}
@@ -41,8 +42,8 @@ Starts side passing = Shows side passing [] × Knows side passing []
 -- ---- one message
 
 -- a message is admitted with its object's interface, or it is refused
-abbrev pub Admits : Result Interface Halt → Way → Result Step ObjectFault → Tracked → Type 0
-Admits (Ok interface) way told objects = (done : Step) × ((told ≡ Ok done) × (refusal_of way told ≡ None) × (interface ≡ done.passed.interface) × (objects ≡ done.objects))
+abbrev pub Admits : Result Interface Halt → Way → Result Admission ObjectFault → Tracked → Type 0
+Admits (Ok interface) way told objects = (done : Admission) × ((told ≡ Ok done) × (refusal_of way told ≡ None) × (interface ≡ done.passed.interface) × (objects ≡ done.objects))
 Admits (Err (Refused cause)) way told objects = refusal_of way told ≡ Some cause
 Admits (Err Memory) way told objects = Unit {0}
 

@@ -2,7 +2,8 @@
 use Rattle.std.specs.Prelude.{◌≡◌, ℕ, ◌+◌, ◌≤◌, [], ◌++◌, Option, None, length, take, drop}
 use Rattle.wl_wire.specs.Wire.{cut, cut_rest, cut_fault}
 use Rattle.wp_outside.specs.declared.kinds.Side.{Side}
-use Rattle.replay_model.specs.Halves.{Half, own_way, taken_by}
+use Rattle.replay_model.specs.Halves.{Half, taken_by}
+use Rattle.wl_tables.specs.Ways.{own_way}
 use Rattle.replay_model.specs.Moves.{Takes}
 use Rattle.replay_model.specs.declared.ends.Refusal.{Refusal}
 use Rattle.pair_replay.specs.Passings.{Starts, Shows, Knows, PassesWaiting}

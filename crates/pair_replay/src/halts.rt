@@ -1,4 +1,4 @@
-// Why a replay ends before its last line.
+//! Why a replay ends before its last line.
 
 use replay_model::{Fault, Refusal};
 

@@ -1,4 +1,4 @@
-// How a proxy hears the other one's frames.
+//! How a proxy hears the other one's frames.
 
 ghost use Rattle.std.specs.Prelude.{◌≡◌, ◌+◌, ◌<◌, ◌^◌, ◌++◌, [], List, ℕ, length};
 ghost use Rattle.pair_replay.specs.Hearings.{BeginsRow, HasOne, GivesFrame, HearsFrames};

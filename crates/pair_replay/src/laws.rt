@@ -1,4 +1,4 @@
-// What is known of the order in which messages pass: the function does nothing, and its clause is what is known.
+//! What is known of the order in which messages pass: the function does nothing, and its clause is what is known.
 
 ghost use Rattle.pair_replay.specs.Laws.{OrderLaws};
 

@@ -1,4 +1,4 @@
-// What one line of a script does.
+//! What one line of a script does.
 
 ghost use Rattle.std.specs.Prelude.{◌≡◌, ◌<◌, length};
 ghost use Rattle.replay_model.specs.Runs.{Does, size_after};

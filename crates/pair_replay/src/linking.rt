@@ -1,4 +1,4 @@
-// How the bytes of frames go into the link and come out of it.
+//! How the bytes of frames go into the link and come out of it.
 
 ghost use Rattle.std.specs.Prelude.{◌≡◌, ◌+◌, ◌<◌, ◌≤◌, ◌^◌, true, length, take, OnOk, IfOk};
 ghost use Rattle.wp_outside.specs.Lines.{Became, lane_of, pulled_from};

@@ -1,17 +1,17 @@
-// What a proxy keeps of the messages that pass it, and how one message passes.
+//! What a proxy keeps of the messages that pass it, and how one message passes.
 
 ghost use Rattle.std.specs.Prelude.{◌≡◌, [], ◌∷◌, ◌++◌, true, false, None, IfOk, OnOk};
 ghost use Rattle.wl_objects.specs.Tracking.{step};
-ghost use Rattle.replay_model.specs.Rows.{frame_of};
 ghost use Rattle.pair_replay.specs.Messages.{is_own, seen_of};
 ghost use Rattle.pair_replay.specs.Passings.{Starts, Admits, TookIn, Gave, IfEnds, Passes};
 
 use crate::halts::Halt;
 use crate::laws::order_laws;
-use crate::ways::{is_event, is_own};
+use crate::ways::is_own;
 use replay_model::{Received, Refusal};
 use std::alloc::{AllocError, Global};
-use wl_objects::{Objects, PassFault};
+use transfer_frames::{Frame, append_frame};
+use wl_objects::{Objects, PassFault, passed_by_the_table};
 use wl_tables::{Interface, Way, handle_kind};
 use wl_wire::{Bytes, Message};
 use wp_outside::Side;
@@ -71,9 +71,10 @@ impl Passing {
         ensures hidden { self.new.objects.hidden ≡ self.old.objects.hidden }
         ensures rest { self.new ≡ record self.old { objects = self.new.objects } }
     {
-        match self.objects.pass(way, message) {
-            Ok(passed) => match handle_kind(passed.interface, is_event(way), passed.opcode) {
-                None => Ok(passed.interface),
+        passed_by_the_table();
+        match self.objects.track(way, message) {
+            Ok(interface) => match handle_kind(interface, way.is_event(), message.opcode()) {
+                None => Ok(interface),
                 Some(_) => Err(Halt::Refused(Refusal::HandleMissing)),
             },
             Err(PassFault::Object(fault)) => Err(Halt::Refused(Refusal::Object(fault))),
@@ -107,7 +108,8 @@ impl Passing {
             Some(sent) => match self.shown(message) {
                 Ok(Some(shown)) => {
                     self.sent = sent;
-                    append_frame(&mut self.made, &shown)
+                    let messages = shown.into_bytes();
+                    append_frame(&mut self.made, &Frame::Protocol { messages })
                 }
                 Ok(None) => {
                     self.sent = sent;
@@ -140,15 +142,4 @@ impl Passing {
             Err(_) => Err(AllocError),
         }
     }
-}
-
-/// Adds the frame that has one message at the end.
-#[tactic(auto, unfolding(transfer_frames::specs::Grammar::spelling, transfer_frames::specs::Numbers::word_bytes))]
-fn append_frame(made: &mut Bytes, message: &Message) -> Result<(), AllocError>
-    ensures { OnOk result (made.new ≡ made.old ++ frame_of message.now) }
-{
-    let bytes = message.bytes();
-    let size = 4 + bytes.len() as u32;
-    made.append(&(size * 32).to_le_bytes())?;
-    made.append(bytes)
 }

@@ -1,4 +1,4 @@
-// One of the two proxies, with the wire of the peer beside it.
+//! One of the two proxies, with the wire of the peer beside it.
 
 ghost use Rattle.std.specs.Prelude.{◌≡◌, ◌++◌, IfOk, OnOk};
 ghost use Rattle.pair_replay.specs.Proxies.{StartsBeside};

@@ -1,4 +1,4 @@
-// What a replay comes to.
+//! What a replay comes to.
 
 use replay_model::{End, Received};
 

@@ -1,4 +1,4 @@
-// A whole replay.
+//! A whole replay.
 
 ghost use Rattle.std.specs.Prelude.{◌≡◌, ◌<◌, length, IfOk, vec_len};
 ghost use Rattle.replay_model.specs.Link.{NothingOpened};
@@ -31,7 +31,7 @@ pub fn replay<L: LinkStore>(
     requires { NothingOpened (L.line line.old) }
     ensures { IfOk result (λ replayed. Replays script.now.steps (L.line line.new) replayed) }
 {
-    match zeros(alloc) {
+    match zeros(alloc, PIECE) {
         Ok(mut piece) => match Run::new(alloc) {
             Ok(mut run) => match play(&mut run, script.steps.as_slice(), line, &mut piece) {
                 Ok(end) => Ok(report(run, end)),
@@ -44,10 +44,10 @@ pub fn replay<L: LinkStore>(
 }
 
 /// Room for what is pulled at once.
-fn zeros(alloc: Global) -> Result<Vec<u8>, AllocError>
-    ensures { IfOk result (λ zeros. vec_len zeros ≡ MOST) }
+fn zeros(alloc: Global, count: usize) -> Result<Vec<u8>, AllocError>
+    ensures { IfOk result (λ zeros. vec_len zeros ≡ count) }
 {
-    vec![in alloc; 0u8; PIECE]
+    vec![in alloc; 0u8; count]
 }
 
 /// Does the lines of a script, and then rounds of the size that the last `drain` sets.

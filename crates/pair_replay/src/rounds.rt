@@ -1,4 +1,4 @@
-// The rounds in which all that waits moves.
+//! The rounds in which all that waits moves.
 
 ghost use Rattle.std.specs.Prelude.{◌≡◌, ℕ, ◌<◌, [], ◌∷◌, length, OnOk};
 ghost use Rattle.wp_outside.specs.Lines.{Line};

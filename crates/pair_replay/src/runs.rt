@@ -1,4 +1,4 @@
-// A replay on its way, and its moves.
+//! A replay on its way, and its moves.
 
 ghost use Rattle.std.specs.Prelude.{◌≡◌, ℕ, ◌<◌, [], ◌∷◌, length, IfOk};
 ghost use Rattle.wp_outside.specs.Lines.{Line};

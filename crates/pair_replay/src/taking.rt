@@ -1,4 +1,4 @@
-// How a proxy takes bytes from its peer's wire.
+//! How a proxy takes bytes from its peer's wire.
 
 ghost use Rattle.std.specs.Prelude.{◌+◌, ◌≤◌, length};
 ghost use Rattle.pair_replay.specs.Passings.{IfEnds};
@@ -7,7 +7,7 @@ ghost use Rattle.pair_replay.specs.Proxies.{TakesPiece, TakesUpTo};
 use crate::halts::Halt;
 use crate::proxy::Proxy;
 use crate::waiting::pass_waiting;
-use crate::ways::own_way;
+use wl_tables::Way;
 
 /// The greatest count of bytes that are taken or pulled at once.
 pub const PIECE: usize = 65_536;
@@ -44,7 +44,7 @@ impl Proxy {
                 self.taken += count;
                 pass_waiting(
                     &mut self.framer,
-                    own_way(self.passing.side),
+                    Way::of_peer(self.passing.side),
                     &mut self.passing,
                 )
             }

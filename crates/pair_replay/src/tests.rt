@@ -1,4 +1,4 @@
-// Small replays, of scripts that are made here line by line.
+//! Small replays, of scripts that are made here line by line.
 
 ghost use Rattle.std.specs.Prelude.{◌<◌, length};
 ghost use Rattle.replay_model.specs.Link.{NothingOpened};
@@ -18,19 +18,19 @@ mod faults;
 mod link;
 mod views;
 
-// wl_display.get_registry(new 2), wl_display.sync(new 3), and the frame of the first.
+/// wl_display.get_registry(new 2), wl_display.sync(new 3), and the frame of the first.
 const REGISTRY: [u8; 12] = [1, 0, 0, 0, 1, 0, 12, 0, 2, 0, 0, 0];
 
 const SYNC: [u8; 12] = [1, 0, 0, 0, 0, 0, 12, 0, 3, 0, 0, 0];
 
-// wl_callback@3.done(7), wl_display.delete_id(3) and wl_display.delete_id(2).
+/// wl_callback@3.done(7), wl_display.delete_id(3) and wl_display.delete_id(2).
 const DONE: [u8; 12] = [3, 0, 0, 0, 0, 0, 12, 0, 7, 0, 0, 0];
 
 const DELETE_SYNC: [u8; 12] = [1, 0, 0, 0, 1, 0, 12, 0, 3, 0, 0, 0];
 
 const DELETE_REGISTRY: [u8; 12] = [1, 0, 0, 0, 1, 0, 12, 0, 2, 0, 0, 0];
 
-// The lines of a script on its way.
+/// The lines of a script on its way.
 #[derive(Drop)]
 struct Lines {
     steps: StepList,
@@ -49,7 +49,7 @@ impl Lines {
         self.steps.push(Step { line: 1, what })
     }
 
-    // The application, or the compositor, puts bytes on its wire.
+    /// The application, or the compositor, puts bytes on its wire.
     fn app(&mut self, bytes: &[u8]) -> Result<(), AllocError> {
         let bytes = Bytes::from_slice(self.alloc, bytes)?;
         self.add(StepKind::Hex {
@@ -66,7 +66,7 @@ impl Lines {
         })
     }
 
-    // Replays the lines over a link of their own.
+    /// Replays the lines over a link of their own.
     fn run(self) -> Result<Replayed, AllocError> {
         let mut line = LineStore::new(self.alloc);
         self.run_over(&mut line)
@@ -79,7 +79,7 @@ impl Lines {
     }
 }
 
-// Whether the message that a peer received at this place, from 0, has this interface and these bytes.
+/// Whether the message that a peer received at this place, from 0, has this interface and these bytes.
 fn has(received: &[Received], at: usize, interface: Interface, bytes: &[u8]) -> bool {
     match received.get(at) {
         Some(it) => it.interface == interface && it.message.bytes() == bytes,

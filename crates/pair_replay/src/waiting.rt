@@ -1,4 +1,4 @@
-// The whole messages that wait in a reader, and how they pass.
+//! The whole messages that wait in a reader, and how they pass.
 
 ghost use Rattle.wl_wire.specs.Wire.{cut, cut_fault};
 ghost use Rattle.pair_replay.specs.Passings.{IfEnds, PassesWaiting};

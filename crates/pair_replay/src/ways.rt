@@ -1,22 +1,11 @@
-// Which way the messages of a peer and those of the link go, and which direction a proxy writes and reads.
+//! Which way the messages of a peer and those of the link go, and which direction a proxy writes and reads.
 
 ghost use Rattle.std.specs.Prelude.{◌≡◌};
-ghost use Rattle.replay_model.specs.Halves.{own_way, heard_way};
-ghost use Rattle.wl_objects.specs.Tracking.{is_event};
+ghost use Rattle.replay_model.specs.Halves.{heard_way};
 ghost use Rattle.pair_replay.specs.Messages.{is_own};
 
 use wl_tables::Way;
 use wp_outside::Side;
-
-/// The way of the messages that a proxy takes from its peer.
-pub fn own_way(side: Side) -> Way
-    ensures { result ≡ own_way side }
-{
-    match side {
-        Side::Near => Way::Request,
-        Side::Far => Way::Event,
-    }
-}
 
 /// The way of the messages that the other proxy sends it.
 pub fn heard_way(side: Side) -> Way
@@ -36,15 +25,5 @@ pub fn is_own(side: Side, way: Way) -> bool
         (Side::Near, Way::Request) => true,
         (Side::Far, Way::Event) => true,
         _ => false,
-    }
-}
-
-/// Whether messages of this way are events.
-pub fn is_event(way: Way) -> bool
-    ensures { result ≡ is_event way }
-{
-    match way {
-        Way::Request => false,
-        Way::Event => true,
     }
 }

@@ -2,20 +2,20 @@
 
 ghost use Rattle.std.specs.Prelude.{◌≤◌, ◌↔◌, IsTrue};
 
-use crate::commits::runs_of_commits;
+use crate::commits::{Scatter, Sides, runs_of_commits, runs_of_scatter};
 use crate::words::{sum_of_copies, sum_of_loads};
 use std::alloc::{AllocError, Global};
 
-// The greatest side of an image, in pixels, and the greatest count of words of a pool.
-const MOST_PIXELS: u32 = 16_384;
-
+// The greatest count of words of a pool.
 const MOST_WORDS: u32 = 8_388_608;
 
 /// Work to be done so many times.
 #[derive(Clone, Copy, Debug, PartialEq, Eq)]
 pub enum Job {
     /// Commits of a surface whose buffer has these sides in pixels.
-    Commits { width: u32, height: u32, times: u32 },
+    Commits { image: Sides, times: u32 },
+    /// One commit with many rectangles of damage.
+    Scatter(Scatter),
     /// Loads of all words of a pool.
     Loads { words: u32, times: u32 },
     /// Plain copies of as many words.
@@ -29,12 +29,23 @@ impl Job {
         let name = fields.next()?;
         let first = number(fields.next()?)?;
         let second = number(fields.next()?)?;
+        let image = Sides {
+            width: first,
+            height: second,
+        };
         match name {
             "commits" => Some(Job::Commits {
-                width: first,
-                height: second,
+                image,
                 times: number(fields.next()?)?,
             }),
+            "scatter" => Some(Job::Scatter(Scatter {
+                image,
+                rect: Sides {
+                    width: number(fields.next()?)?,
+                    height: number(fields.next()?)?,
+                },
+                count: number(fields.next()?)?,
+            })),
             "loads" => Some(Job::Loads {
                 words: first,
                 times: second,
@@ -50,26 +61,17 @@ impl Job {
     /// Does the work, and answers a sum over what came out; 0 where a size is none that the part takes.
     pub fn sum(self, alloc: Global) -> Result<u64, AllocError> {
         match self {
-            Job::Commits {
-                width,
-                height,
-                times,
-            } => {
-                if is_within(width, MOST_PIXELS) && is_within(height, MOST_PIXELS) {
-                    runs_of_commits(alloc, width, height, times)
-                } else {
-                    Ok(0)
-                }
-            }
+            Job::Commits { image, times } => runs_of_commits(alloc, image, times),
+            Job::Scatter(scatter) => runs_of_scatter(alloc, scatter),
             Job::Loads { words, times } => {
-                if is_within(words, MOST_WORDS) {
+                if is_pool(words) {
                     sum_of_loads(alloc, words, times)
                 } else {
                     Ok(0)
                 }
             }
             Job::Copies { words, times } => {
-                if is_within(words, MOST_WORDS) {
+                if is_pool(words) {
                     sum_of_copies(alloc, words, times)
                 } else {
                     Ok(0)
@@ -84,9 +86,9 @@ fn number(field: &str) -> Option<u32> {
     field.parse().ok()
 }
 
-// Whether a size is at least 1 and no more than the greatest.
-fn is_within(size: u32, most: u32) -> bool
-    ensures { IsTrue result ↔ ((1 ≤ size) × (size ≤ most)) }
+// Whether a pool may have so many words.
+fn is_pool(words: u32) -> bool
+    ensures { IsTrue result ↔ ((1 ≤ words) × (words ≤ 8388608)) }
 {
-    size >= 1 && size <= most
+    words >= 1 && words <= MOST_WORDS
 }

@@ -1,5 +1,5 @@
-//! Does the work of one part of the proxies many times over, as each line of its input says, so that a script can
-//! measure it. It is no part of the program.
+//! Does the work of one part of the proxies many times over, as each line of its input says, so
+//! that a script can measure it. It is no part of the program.
 #![tactic(auto)]
 
 mod commits;
@@ -9,6 +9,10 @@ mod words;
 use jobs::Job;
 use std::io;
 
+// What a line may be.
+const WANTED: &str =
+    "commits WIDTH HEIGHT TIMES, scatter WIDTH HEIGHT ACROSS DOWN COUNT, loads WORDS TIMES or copies WORDS TIMES";
+
 fn main(rt: HostRuntime) -> io::Result<()> {
     for line in rt.lines(rt.alloc()) {
         match Job::read(line?.as_str()) {
@@ -16,9 +20,7 @@ fn main(rt: HostRuntime) -> io::Result<()> {
                 let sum = job.sum(rt.alloc())?;
                 println!(rt; "{sum}")?;
             }
-            None => println!(rt;
-                "commits WIDTH HEIGHT TIMES, loads WORDS TIMES or copies WORDS TIMES"
-            )?,
+            None => println!(rt; "{WANTED}")?,
         }
     }
     Ok(())

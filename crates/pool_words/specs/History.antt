@@ -1,5 +1,7 @@
--- What the words of shared memory held: of memory that a Wayland client hands over by wl_shm, as it was after each of the client's writes.
-use Rattle.std.specs.Prelude.{◌≡◌, ◌≢◌, ℕ, ◌==◌, ◌≤◌, List, [], ◌∷◌, length, take, drop, All, if◌then◌else◌}
+-- What the words of shared memory held: of memory that a Wayland client hands over by wl_shm, as it
+-- was after each of the client's writes.
+use Rattle.std.specs.Prelude.{◌≡◌, ◌≢◌, ℕ, ◌==◌, ◌≤◌, List, [], ◌∷◌, length, take, drop, All}
+use Rattle.std.specs.Prelude.{if◌then◌else◌}
 use Rattle.pool_words.specs.declared.views.Write.{Write}
 use Rattle.pool_words.specs.declared.views.Sight.{Sight}
 use Rattle.pool_words.specs.declared.views.Load.{Load}
@@ -17,7 +19,8 @@ at history k i = held_after (take k history) i 0
 abbrev pub Stood : List Write → ℕ → ℕ → ℕ → ℕ → Type 0
 Stood history low high i v = (k : ℕ) × (low ≤ k) × (k ≤ high) × (at history k i ≡ v)
 
--- what a finished eye loaded stood there between its note and its finish, and its finish lies within the history
+-- what a finished eye loaded stood there between its note and its finish, and its finish lies
+-- within the history
 abbrev pub HasStood : List Write → Load → Type 0
 HasStood history l = (l.high ≤ length history) × Stood history l.low l.high l.word l.value
 

@@ -1,4 +1,5 @@
--- What follows of the words of shared memory from the writes alone: of memory that a Wayland client hands over by wl_shm.
+-- What follows of the words of shared memory from the writes alone: of memory that a Wayland client
+-- hands over by wl_shm.
 use Rattle.std.specs.Prelude.{◌≡◌, ◌≢◌, ℕ, ◌≤◌, List, ◌∷◌, ◌++◌, length, take, All}
 use Rattle.pool_words.specs.declared.views.Write.{Write}
 use Rattle.pool_words.specs.declared.views.Load.{Load}
@@ -19,11 +20,15 @@ LaterWritesLeave = (h more : List Write) (k i : ℕ) → k ≤ length h → at (
 
 -- a word that no write from low to high names is the same at both ends
 abbrev pub UntouchedStays : Type 0
-UntouchedStays = (h : List Write) (low high i : ℕ) → low ≤ high → Untouched h low high i → at h high i ≡ at h low i
+UntouchedStays =
+    (h : List Write) (low high i : ℕ) → low ≤ high → Untouched h low high i
+    → at h high i ≡ at h low i
 
 -- what stood in such a word is what it held at low
 abbrev pub UntouchedIsCommitted : Type 0
-UntouchedIsCommitted = (h : List Write) (low high i v : ℕ) → Stood h low high i v → Untouched h low high i → v ≡ at h low i
+UntouchedIsCommitted =
+    (h : List Write) (low high i v : ℕ) → Stood h low high i v → Untouched h low high i
+    → v ≡ at h low i
 
 -- a load that has stood has stood in each longer history
 abbrev pub StoodStays : Type 0

@@ -1,4 +1,5 @@
--- That threads may share a pen, an eye or a receipt by reference, as Rust's marker Sync says: what a reference to one holds says the same to every thread.
+-- That threads may share a pen, an eye or a receipt by reference, as Rust's marker Sync says: what
+-- a reference to one holds says the same to every thread.
 use Rattle.std.specs.Thread.{IsSync}
 use Rattle.pool_words.specs.contracts.pen.Pen as Pen
 use Rattle.pool_words.specs.contracts.eye.Eye as Eye

@@ -1,4 +1,5 @@
--- What the pen, an eye and a receipt of a pool know, as plain data, and how each kind of step changes it.
+-- What the pen, an eye and a receipt of a pool know, as plain data, and how each kind of step
+-- changes it.
 use Rattle.std.specs.Prelude.{◌≡◌, ℕ, ◌+◌, max, List, [], ◌∷◌, ◌++◌, length, map}
 use Rattle.atomic_table.specs.Seated.{TableId}
 use Rattle.pool_words.specs.declared.views.Write.{Write}
@@ -13,7 +14,15 @@ PoolId = TableId
 
 -- the name of no pool
 abbrev pub no_pool : PoolId
-no_pool = record { words = 0; slots = 0; views_name = 0; atom = 0; block = 0; offset = 0; slot_names = [] }
+no_pool = record {
+  words = 0;
+  slots = 0;
+  views_name = 0;
+  atom = 0;
+  block = 0;
+  offset = 0;
+  slot_names = [];
+}
 
 -- a pen: the writes made through it, in order, and the loads that it settled
 pub record PenState : Type 0 where
@@ -85,15 +94,39 @@ loads_of _ = []
 
 -- the eye that a note of this pen is
 abbrev pub note_of : PenState → EyeState
-note_of p = record { pool = p.pool; number = p.number; words = p.words; low = length p.history; seen = [] }
+note_of p = record {
+  pool = p.pool;
+  number = p.number;
+  words = p.words;
+  low = length p.history;
+  seen = [];
+}
+
+-- the pen that made one write more
+abbrev pub wrote : PenState → ℕ → ℕ → PenState
+wrote p i v = record p { history = p.history ++ write i v ∷ [] }
+
+-- the pen that settled one receipt more
+abbrev pub took : PenState → ReceiptState → PenState
+took p r = record p { settled = p.settled ++ r.loads }
 
 -- the receipt of this eye, where it finished at this count of writes
 abbrev pub receipt_of : EyeState → ℕ → ReceiptState
-receipt_of e high = record { pool = e.pool; number = e.number; high = high; loads = map (load e.low high) e.seen }
+receipt_of e high = record {
+  pool = e.pool;
+  number = e.number;
+  high = high;
+  loads = map (load e.low high) e.seen;
+}
 
 -- both receipts, each load as it was
 abbrev pub joined : ReceiptState → ReceiptState → ReceiptState
-joined r other = record { pool = r.pool; number = r.number; high = max r.high other.high; loads = r.loads ++ other.loads }
+joined r other = record {
+  pool = r.pool;
+  number = r.number;
+  high = max r.high other.high;
+  loads = r.loads ++ other.loads;
+}
 
 -- a pen between two writes
 abbrev pub IsIdle : View → Type 0
@@ -101,7 +134,9 @@ IsIdle v = v ≡ Writing (history_of v) (length (history_of v)) (settled_of v)
 
 -- a pen that announced this write last, and has not stored it
 abbrev pub IsPending : ℕ → ℕ → View → Type 0
-IsPending i x v = (h : List Write) × (settled : List Load) × (v ≡ Writing (h ++ write i x ∷ []) (length h) settled)
+IsPending i x v =
+    (h : List Write) × (settled : List Load)
+    × (v ≡ Writing (h ++ write i x ∷ []) (length h) settled)
 
 abbrev pub IsEye : View → Type 0
 IsEye v = v ≡ Seeing (low_of v) (seen_of v)

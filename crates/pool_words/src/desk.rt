@@ -1,8 +1,12 @@
-//! A seat at the table of a pool, and the eight kinds of step that it takes. Each is one load or store of one word.
+//! A seat at the table of a pool, and the eight kinds of step that it takes. Each is one load or
+//! store of one word.
 
 ghost use Rattle.std.specs.Prelude.{◌≡◌, ◌++◌, ◌+◌, ◌^◌, ◌<◌, ◌≤◌, length, IfOk, All};
 ghost use Rattle.pool_words.specs.History.{HasStood};
-ghost use Rattle.pool_words.specs.Views.{write, announced, stored, loaded, finished, noted, divided, absorbed, settling, history_of, settled_of, low_of, seen_of, sights, IsIdle, IsPending, IsEye, IsReceipt};
+ghost use Rattle.pool_words.specs.Views.{write, announced, stored, loaded, finished, noted};
+ghost use Rattle.pool_words.specs.Views.{divided, absorbed, settling, history_of, settled_of};
+ghost use Rattle.pool_words.specs.Views.{low_of, seen_of, sights, IsIdle, IsPending, IsEye};
+ghost use Rattle.pool_words.specs.Views.{IsReceipt};
 ghost use Rattle.pool_words.specs.Pool.{blank};
 ghost use Rattle.pool_words.specs.declared.views.View.TheVariants.{Seeing};
 
@@ -16,7 +20,8 @@ use std::alloc::{AllocError, Global};
 use std::marker::Model;
 use std::sync::Arc;
 
-/// A seat, with the pool that all seats share. Contracts see which pool it is, its number of words, and the seat's view.
+/// A seat, with the pool that all seats share. Contracts see which pool it is, its number of words,
+/// and the seat's view.
 #[derive(Drop)]
 pub struct Desk {
     pool: Arc<Pool, Global>,
@@ -30,9 +35,15 @@ impl Model for Desk {
 
     ghost Value = { DeskState };
 
-    ghost view = { λ d. record { pool = d.place.table_id; words = (arc_value d.pool).shared.key; view = d.place.me.0 } };
+    ghost view = { λ d. record {
+      pool = d.place.table_id;
+      words = (arc_value d.pool).shared.key;
+      view = d.place.me.0;
+    } };
 
-    ghost invariant = { λ d. (d.place.table_id ≡ (arc_value d.pool).shared.table_id) × (d.place.table_id.words ≡ (arc_value d.pool).shared.key + 1) × (d.place.me.1 ≡ []) };
+    ghost invariant = { λ d. (d.place.table_id ≡ (arc_value d.pool).shared.table_id)
+        × (d.place.table_id.words ≡ (arc_value d.pool).shared.key + 1)
+        × (d.place.me.1 ≡ []) };
 }
 
 impl Desk {
@@ -46,7 +57,8 @@ impl Desk {
         Ok(Desk { pool, place })
     }
 
-    /// 1: announces a write, by the count of writes with this one. The write itself is for the proof alone.
+    /// 1: announces a write, by the count of writes with this one. The write itself is for the
+    /// proof alone.
     pub fn announce<W: Announced>(&mut self, count: u64, word: u32, value: u64)
         requires idle { IsIdle self.old.view }
         requires count { count ≡ length (history_of self.old.view) + 1 }
@@ -86,7 +98,9 @@ impl Desk {
         requires eye { IsEye self.old.view }
         requires within { first + length out.old ≤ self.old.words }
         requires small { first + length out.old < 2 ^ 32 }
-        ensures { self.new ≡ record self.old { view = Seeing (low_of self.old.view) (seen_of self.old.view ++ sights first out.new) } }
+        ensures { self.new ≡ record self.old {
+          view = Seeing (low_of self.old.view) (seen_of self.old.view ++ sights first out.new);
+        } }
     {
         for i in 0..out.len() {
             out[i] = self.load(first + i as u32);
@@ -145,7 +159,8 @@ impl Desk {
         self.pool.shared.join_seat::<Settle>(&mut self.place, place);
     }
 
-    /// The end of 8: the count is loaded once more, by which the pen is told that all loads which it settled have stood.
+    /// The end of 8: the count is loaded once more, by which the pen is told that all loads which
+    /// it settled have stood.
     pub fn learn(&mut self)
         requires { IsIdle self.old.view }
         ensures same { self.new ≡ self.old }

@@ -8,8 +8,8 @@ use crate::receipt::Receipt;
 use std::alloc::AllocError;
 use std::marker::Model;
 
-/// A note of a pen. Contracts see which pool it is of, its number, how many words it has, the count of writes at the note,
-/// and its loads in order.
+/// A note of a pen. Contracts see which pool it is of, its number, how many words it has, the count
+/// of writes at the note, and its loads in order.
 #[derive(Drop)]
 pub struct Eye {
     desk: Desk,
@@ -19,21 +19,35 @@ pub struct Eye {
 }
 
 impl Model for Eye {
-    ghost use Rattle.std.specs.Prelude.{◌≡◌};
+    ghost use Rattle.std.specs.Prelude.{◌≡◌, ◌≤◌};
     ghost use Rattle.pool_words.specs.Views.{EyeState, IsEye, low_of, seen_of};
 
     ghost Value = { EyeState };
 
-    ghost view = { λ e. record { pool = e.desk.pool; number = e.number; words = e.words; low = e.low; seen = seen_of e.desk.view } };
+    ghost view = { λ e. record {
+      pool = e.desk.pool;
+      number = e.number;
+      words = e.words;
+      low = e.low;
+      seen = seen_of e.desk.view;
+    } };
 
-    ghost invariant = { λ e. (e.desk.words ≡ e.words) × IsEye e.desk.view × (e.low ≡ low_of e.desk.view) };
+    ghost invariant = { λ e. (e.desk.words ≡ e.words) × IsEye e.desk.view
+        × (e.low ≡ low_of e.desk.view) × (1 ≤ e.words) };
 }
 
 impl Eye {
     // The eye that has this seat.
     pub(crate) fn over(desk: Desk, number: u64, words: u32, low: u64) -> Eye
-        requires { (desk.words ≡ words) × IsEye desk.view × (low ≡ low_of desk.view) }
-        ensures { result ≡ record { pool = desk.pool; number = number; words = words; low = low; seen = seen_of desk.view } }
+        requires sized { (desk.words ≡ words) × (1 ≤ words) }
+        requires eye { IsEye desk.view × (low ≡ low_of desk.view) }
+        ensures { result ≡ record {
+          pool = desk.pool;
+          number = number;
+          words = words;
+          low = low;
+          seen = seen_of desk.view;
+        } }
     {
         Eye {
             desk,
@@ -50,9 +64,10 @@ impl Eye {
         self.number
     }
 
-    /// The number of words.
+    /// The number of words, at least one.
     pub fn words(&self) -> u32
-        ensures { result ≡ self.now.words }
+        ensures words { result ≡ self.now.words }
+        ensures some { 1 ≤ result }
     {
         self.words
     }

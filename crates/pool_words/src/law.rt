@@ -4,7 +4,8 @@ use atomic_table::{Join, Play, Seat, Split, Table, TableRule};
 use std::alloc::Global;
 use std::marker::Brand;
 
-/// The rule over the words of a pool and what its pen, its eyes and its receipts know. Its key is the number of words.
+/// The rule over the words of a pool and what its pen, its eyes and its receipts know. Its key is
+/// the number of words.
 pub struct Law;
 
 impl TableRule<(), View, u64> for Law {
@@ -116,7 +117,8 @@ impl Join<View> for Settle {
     ghost spent = { Spent };
 }
 
-/// The end of 8: the pen loads the count of writes, which changes nothing, and is told that what it settled has stood.
+/// The end of 8: the pen loads the count of writes, which changes nothing, and is told that what it
+/// settled has stood.
 pub struct Learn;
 
 impl Play<(), View> for Learn {

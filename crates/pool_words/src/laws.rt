@@ -1,6 +1,7 @@
 //! Laws of what words held.
 
-ghost use Rattle.pool_words.specs.Laws.{LastWriteStands, UnnamedIsZero, LaterWritesLeave, UntouchedStays, UntouchedIsCommitted, StoodStays};
+ghost use Rattle.pool_words.specs.Laws.{LastWriteStands, UnnamedIsZero, LaterWritesLeave};
+ghost use Rattle.pool_words.specs.Laws.{UntouchedStays, UntouchedIsCommitted, StoodStays};
 ghost use Rattle.pool_words.specs.Sharing.{PenIsShared, EyeIsShared, ReceiptIsShared};
 
 /// A word that a write names holds its value, until another write names the word.

@@ -6,8 +6,8 @@ ghost use Rattle.pool_words.specs.Views.{IsReceipt, high_of, loads_of, joined};
 use crate::desk::Desk;
 use std::marker::Model;
 
-/// What stands for the loads of finished eyes. Contracts see which pool it is of, its number, its high, and each load with
-/// its own low and high.
+/// What stands for the loads of finished eyes. Contracts see which pool it is of, its number, its
+/// high, and each load with its own low and high.
 #[derive(Drop)]
 pub struct Receipt {
     desk: Desk,
@@ -21,7 +21,12 @@ impl Model for Receipt {
 
     ghost Value = { ReceiptState };
 
-    ghost view = { λ r. record { pool = r.desk.pool; number = r.number; high = r.high; loads = loads_of r.desk.view } };
+    ghost view = { λ r. record {
+      pool = r.desk.pool;
+      number = r.number;
+      high = r.high;
+      loads = loads_of r.desk.view;
+    } };
 
     ghost invariant = { λ r. IsReceipt r.desk.view × (r.high ≡ high_of r.desk.view) };
 }
@@ -30,14 +35,21 @@ impl Receipt {
     // The receipt that has this seat.
     pub(crate) fn over(desk: Desk, number: u64, high: u64) -> Receipt
         requires { IsReceipt desk.view × (high ≡ high_of desk.view) }
-        ensures { result ≡ record { pool = desk.pool; number = number; high = high; loads = loads_of desk.view } }
+        ensures { result ≡ record {
+          pool = desk.pool;
+          number = number;
+          high = high;
+          loads = loads_of desk.view;
+        } }
     {
         Receipt { desk, number, high }
     }
 
     // Its seat.
     pub(crate) fn into_desk(self) -> Desk
-        ensures { IsReceipt result.view × (result.pool ≡ self.pool) × (high_of result.view ≡ self.high) × (loads_of result.view ≡ self.loads) }
+        ensures receipt { IsReceipt result.view }
+        ensures same { (result.pool ≡ self.pool) × (high_of result.view ≡ self.high) }
+        ensures loads { loads_of result.view ≡ self.loads }
     {
         let Receipt {
             desk,

@@ -1,4 +1,6 @@
-// No test asserts what the schedule decides: whether a word was seen changed is only printed.
+//! A pool in one thread and in three. No test asserts what the schedule decides: whether a word was
+//! seen changed is only printed.
+
 use super::*;
 use std::test::*;
 

@@ -1,4 +1,5 @@
-//! What each seat at the table of a pool knows. No value of these types is made: they stand in contracts alone.
+//! What each seat at the table of a pool knows. No value of these types is made: they stand in
+//! contracts alone.
 use std::collections::LinkedList;
 
 /// A write: this word got this value.

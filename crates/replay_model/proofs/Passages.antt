@@ -9,10 +9,10 @@ use Rattle.std.proofs.Common.{◌≡◌, ℕ, List, [], ◌∷◌, ◌++◌, Opt
 use Rattle.wl_wire.specs.declared.faults.ObjectFault.{ObjectFault}
 use Rattle.wl_tables.specs.declared.way.Way.{Way}
 use Rattle.wl_objects.specs.Entries.{Tracked, first_objects}
-use Rattle.wl_objects.specs.Tracking.{then_goes, Step, step, track}
+use Rattle.wl_objects.specs.Tracking.{then_goes, Admission, step, track}
 use Rattle.wl_objects.specs.Registry.{first_state}
-use Rattle.wl_objects.proofs.Parts.{track-goes-on}
-use Rattle.wl_objects.proofs.Shown.{state-is-tracked}
+use Rattle.wl_objects.proofs.Parts.{track_goes_on}
+use Rattle.wl_objects.proofs.Shown.{state_is_tracked}
 use Rattle.replay_model.specs.Headline.{Passes}
 use Rattle.replay_model.specs.Passing.{objects_after, refusal_of, refusal, Passage, or_refused, pass_all}
 use Rattle.replay_model.specs.declared.ends.Refusal.{Refusal}
@@ -20,22 +20,22 @@ use Rattle.replay_model.proofs.Fronts.{not_empty, last_or_before}
 use Rattle.replay_model.proofs.Ways.{tagged}
 
 objects_of : (order : List (Way × List ℕ)) (objects : Tracked) → track first_objects order ≡ Ok objects → track first_objects order ≡ Ok (objects_after order)
-objects_of order objects passed = passed ∙ ap (λ (it : Tracked). Ok it) (sym (state-is-tracked first_state objects order passed))
+objects_of order objects passed = passed ∙ ap (λ (it : Tracked). Ok it) (sym (state_is_tracked first_state objects order passed))
 
 pub passes_nothing : Passes []
 passes_nothing = record { tracked = refl; none_refused = λ front back it e. absurd (not_empty front it back e) }
 
 -- a message that isn't refused passes the objects
 
-pub goes : (way : Way) (told : Result Step ObjectFault) → refusal_of way told ≡ None → (done : Step) × (told ≡ Ok done)
+pub goes : (way : Way) (told : Result Admission ObjectFault) → refusal_of way told ≡ None → (done : Admission) × (told ≡ Ok done)
 goes way (Ok done) none = (done, refl)
 goes way (Err fault) none = absurd (cc)
 
-track_one : (way : Way) (order : List (Way × List ℕ)) (message : List ℕ) (done : Step) → Passes order → step way (objects_after order) message ≡ Ok done → track first_objects (order ++ (way, message) ∷ []) ≡ Ok done.objects
+track_one : (way : Way) (order : List (Way × List ℕ)) (message : List ℕ) (done : Admission) → Passes order → step way (objects_after order) message ≡ Ok done → track first_objects (order ++ (way, message) ∷ []) ≡ Ok done.objects
 track_one way order message done passes stepped =
-    track-goes-on first_objects order ((way, message) ∷ [])
+    track_goes_on first_objects order ((way, message) ∷ [])
     ∙ ap (λ (told : Result Tracked ObjectFault). then_goes told (λ between. track between ((way, message) ∷ []))) passes.tracked
-    ∙ ap (λ (told : Result Step ObjectFault). then_goes told (λ it. Ok it.objects)) stepped
+    ∙ ap (λ (told : Result Admission ObjectFault). then_goes told (λ it. Ok it.objects)) stepped
 
 pub passes_one : (way : Way) (order : List (Way × List ℕ)) (message : List ℕ) → Passes order → refusal order way message ≡ None → Passes (order ++ (way, message) ∷ [])
 passes_one way order message passes none =

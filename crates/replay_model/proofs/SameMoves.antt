@@ -10,7 +10,8 @@ use Rattle.wl_tables.specs.declared.way.Way.{Way}
 use Rattle.wp_outside.specs.declared.kinds.Side.{Side}
 use Rattle.wp_outside.specs.declared.kinds.Side.TheVariants.{Near, Far}
 use Rattle.wp_outside.specs.declared.kinds.Direction.TheVariants.{Up, Down}
-use Rattle.replay_model.specs.Halves.{Half, Pair, other, own_way, heard_way, taken_by, given_by, made_by}
+use Rattle.replay_model.specs.Halves.{Half, Pair, other, heard_way, taken_by, given_by, made_by}
+use Rattle.wl_tables.specs.Ways.{own_way}
 use Rattle.replay_model.specs.Headline.{Starts}
 use Rattle.replay_model.specs.Moves.{Move, Put, Take, Connect, ConnectIfMade, Push, Pull, Moves, Takes, or_size, taking}
 use Rattle.replay_model.specs.Passing.{Passage, pass_all}

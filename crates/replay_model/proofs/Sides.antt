@@ -5,7 +5,8 @@ use Rattle.wl_tables.specs.declared.way.Way.TheVariants.{Event}
 use Rattle.wl_objects.specs.Registry.{first_state, visible}
 use Rattle.wp_outside.specs.declared.kinds.Side.{Side}
 use Rattle.wp_outside.specs.declared.kinds.Side.TheVariants.{Near, Far}
-use Rattle.replay_model.specs.Halves.{Half, own_way, heard_way, of_way, taken_by, given_by, made_by}
+use Rattle.replay_model.specs.Halves.{Half, heard_way, of_way, taken_by, given_by, made_by}
+use Rattle.wl_tables.specs.Ways.{own_way}
 use Rattle.replay_model.specs.Headline.{Starts, Passes}
 use Rattle.replay_model.specs.Passing.{objects_after}
 use Rattle.replay_model.proofs.Ways.{tagged, requests_added, events_added, requests_stay, events_stay, visible_more, visible_stays, AreMessages, whole_visible}

@@ -7,10 +7,10 @@ use Rattle.wl_wire.specs.Wire.{IsMessage}
 use Rattle.wl_tables.specs.declared.way.Way.{Way}
 use Rattle.wl_tables.specs.declared.way.Way.TheVariants.{Request, Event}
 use Rattle.wl_objects.specs.Entries.{Tracked, first_objects}
-use Rattle.wl_objects.specs.Tracking.{Step, step, track}
-use Rattle.wl_objects.specs.Registry.{ObjectsState, Pair, first_state, view, visible, shown_then, state_after}
-use Rattle.wl_objects.proofs.Shown.{visible-goes-on}
-use Rattle.wl_objects.proofs.WholeShown.{shown-is-whole}
+use Rattle.wl_objects.specs.Tracking.{Admission, step, track}
+use Rattle.wl_objects.specs.Registry.{ObjectsState, RegistryGlobal, first_state, view, visible, shown_then, state_after}
+use Rattle.wl_objects.proofs.Shown.{visible_goes_on}
+use Rattle.wl_objects.proofs.WholeShown.{shown_is_whole}
 use Rattle.replay_model.specs.Halves.{if_way, of_way}
 use Rattle.replay_model.specs.Headline.{Starts}
 
@@ -55,9 +55,9 @@ events_stay order more = of_way_append Event order (tagged Request more) ∙ ap 
 
 pub visible_more : (order more : List (Way × List ℕ)) (objects : Tracked) → track first_objects order ≡ Ok objects → Starts (visible first_state order) (visible first_state (order ++ more))
 visible_more order more objects passed =
-    record { rest = visible (state_after first_state order) more; is = sym (visible-goes-on first_state objects order more passed) }
+    record { rest = visible (state_after first_state order) more; is = sym (visible_goes_on first_state objects order more passed) }
 
-request_step : (told : Result Step ObjectFault) (hidden : List Pair) (message : List ℕ) (rest : List (Way × List ℕ))
+request_step : (told : Result Admission ObjectFault) (hidden : List RegistryGlobal) (message : List ℕ) (rest : List (Way × List ℕ))
     → ((next : ObjectsState) → visible next rest ≡ []) → shown_then told Request hidden message (λ next. visible next rest) ≡ []
 request_step (Ok done) hidden message rest next = next _
 request_step (Err fault) hidden message rest next = refl
@@ -68,7 +68,7 @@ requests_not_shown (message ∷ messages) state = request_step (step Request sta
 
 pub visible_stays : (order : List (Way × List ℕ)) (more : List (List ℕ)) (objects : Tracked) → track first_objects order ≡ Ok objects → visible first_state (order ++ tagged Request more) ≡ visible first_state order
 visible_stays order more objects passed =
-    visible-goes-on first_state objects order (tagged Request more) passed
+    visible_goes_on first_state objects order (tagged Request more) passed
     ∙ ap (λ (l : List (List ℕ)). visible first_state order ++ l) (requests_not_shown more (state_after first_state order))
     ∙ append-nil (visible first_state order)
 
@@ -89,17 +89,17 @@ whole_option : (it : Option (List ℕ)) → IfSome it IsMessage → AreMessages 
 whole_option None is = tt
 whole_option (Some message) is = (is, tt)
 
-whole_request : (told : Result Step ObjectFault) (hidden : List Pair) (message : List ℕ) (rest : List (Way × List ℕ))
+whole_request : (told : Result Admission ObjectFault) (hidden : List RegistryGlobal) (message : List ℕ) (rest : List (Way × List ℕ))
     → ((next : ObjectsState) → AreMessages (visible next rest)) → AreMessages (shown_then told Request hidden message (λ next. visible next rest))
 whole_request (Ok done) hidden message rest next = next _
 whole_request (Err fault) hidden message rest next = tt
 
-whole_event : (told : Result Step ObjectFault) (hidden : List Pair) (message : List ℕ) (rest : List (Way × List ℕ)) → IsMessage message
+whole_event : (told : Result Admission ObjectFault) (hidden : List RegistryGlobal) (message : List ℕ) (rest : List (Way × List ℕ)) → IsMessage message
     → ((next : ObjectsState) → AreMessages (visible next rest)) → AreMessages (shown_then told Event hidden message (λ next. visible next rest))
 whole_event (Ok done) hidden message rest whole next =
     let now : ObjectsState = record { tracked = done.objects; hidden = hidden } in
     let after : ObjectsState = record { tracked = done.objects; hidden = (view now message).hidden } in
-    whole_append (option_to_list (view now message).shown) (visible after rest) (whole_option (view now message).shown (shown-is-whole now message whole)) (next after)
+    whole_append (option_to_list (view now message).shown) (visible after rest) (whole_option (view now message).shown (shown_is_whole now message whole)) (next after)
 whole_event (Err fault) hidden message rest whole next = tt
 
 pub whole_visible : (order : List (Way × List ℕ)) (state : ObjectsState) → AreMessages (of_way Event order) → AreMessages (visible state order)

@@ -12,7 +12,8 @@ use Rattle.wl_wire.proofs.Cutting.{stops-nil}
 use Rattle.wl_wire.proofs.FrontLemmas.{first-short}
 use Rattle.wl_wire.proofs.CuttingLaws.{cut-nothing, cut-goes_on, cut-joins, cut-fault-stays}
 use Rattle.wp_outside.specs.declared.kinds.Side.{Side}
-use Rattle.replay_model.specs.Halves.{Half, own_way, taken_by}
+use Rattle.replay_model.specs.Halves.{Half, taken_by}
+use Rattle.wl_tables.specs.Ways.{own_way}
 use Rattle.replay_model.specs.Headline.{Starts, Passes}
 use Rattle.replay_model.specs.Moves.{or_size, taking, Takes, with_put}
 use Rattle.replay_model.specs.Passing.{refusal}

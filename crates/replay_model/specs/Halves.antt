@@ -1,5 +1,6 @@
 -- The two proxies of a replay, each with the peer beside it, as plain data: what was put on the wires, what was taken and passed, and how much went over the link. The messages are those of the Wayland protocol; all else is this project's own.
 use Rattle.std.specs.Prelude.{ℕ, List, [], Bool, false, Option, Some, None, filter_map}
+use Rattle.wl_tables.specs.Ways.{own_way}
 use Rattle.wl_tables.specs.declared.way.Way.{Way}
 use Rattle.wl_tables.specs.declared.way.Way.TheVariants.{Request, Event}
 use Rattle.wl_objects.specs.Registry.{first_state, visible}
@@ -41,11 +42,6 @@ half_of Far pair = pair.far
 abbrev pub with_half : Side → Half → Pair → Pair
 with_half Near half pair = record pair { near = half }
 with_half Far half pair = record pair { far = half }
-
--- the way of the messages that a proxy takes from its peer
-abbrev pub own_way : Side → Way
-own_way Near = Request
-own_way Far = Event
 
 -- the way of those that the other proxy sends it
 abbrev pub heard_way : Side → Way

@@ -13,7 +13,8 @@ use Rattle.wp_outside.specs.declared.kinds.Side.{Side}
 use Rattle.wp_outside.specs.declared.kinds.Side.TheVariants.{Near, Far}
 use Rattle.script_lang.specs.Puts.{puts}
 use Rattle.script_lang.specs.declared.steps.Step.{Step}
-use Rattle.replay_model.specs.Halves.{Half, Pair, other, half_of, own_way, heard_way, taken_by, given_by, made_by}
+use Rattle.replay_model.specs.Halves.{Half, Pair, other, half_of, heard_way, taken_by, given_by, made_by}
+use Rattle.wl_tables.specs.Ways.{own_way}
 use Rattle.replay_model.specs.Moves.{frame_bytes}
 use Rattle.replay_model.specs.Passing.{objects_after, refusal}
 use Rattle.replay_model.specs.Rows.{frame_of, frames_of}

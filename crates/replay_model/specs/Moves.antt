@@ -7,7 +7,8 @@ use Rattle.wp_outside.specs.declared.kinds.Side.{Side}
 use Rattle.wp_outside.specs.declared.kinds.Side.TheVariants.{Near, Far}
 use Rattle.wp_outside.specs.declared.kinds.Direction.{Direction}
 use Rattle.wp_outside.specs.declared.kinds.Direction.TheVariants.{Up, Down}
-use Rattle.replay_model.specs.Halves.{Half, Pair, other, half_of, with_half, own_way, heard_way, taken_by, given_by, made_by}
+use Rattle.replay_model.specs.Halves.{Half, Pair, other, half_of, with_half, heard_way, taken_by, given_by, made_by}
+use Rattle.wl_tables.specs.Ways.{own_way}
 use Rattle.replay_model.specs.Passing.{Passage, pass_all}
 use Rattle.replay_model.specs.Rows.{frames_of, whole_in}
 use Rattle.replay_model.specs.declared.ends.Fault.{Fault}

@@ -6,7 +6,8 @@ use Rattle.wl_tables.specs.declared.way.Way.{Way}
 use Rattle.wl_wire.specs.declared.faults.ObjectFault.{ObjectFault}
 use Rattle.wl_objects.specs.Entries.{Tracked, first_objects}
 use Rattle.wl_objects.specs.Registry.{first_state, state_after}
-use Rattle.wl_objects.specs.Tracking.{is_event, Step, step}
+use Rattle.wl_objects.specs.Tracking.{Admission, step}
+use Rattle.wl_tables.specs.Ways.{is_event}
 use Rattle.wl_objects.specs.declared.passed.Passed.{Passed}
 use Rattle.replay_model.specs.Halves.{if_way}
 use Rattle.replay_model.specs.declared.ends.Refusal.{Refusal}
@@ -17,7 +18,7 @@ abbrev pub carries_handle : Way → Passed → Bool
 carries_handle way it = is_some (handle_kind it.interface (is_event way) it.opcode)
 
 -- why a message that comes to this is refused, if it is
-abbrev pub refusal_of : Way → Result Step ObjectFault → Option Refusal
+abbrev pub refusal_of : Way → Result Admission ObjectFault → Option Refusal
 refusal_of way (Err fault) = Some (Object fault)
 refusal_of way (Ok done) = if carries_handle way done.passed then Some HandleMissing else None
 
@@ -49,7 +50,7 @@ abbrev pub received_of : Interface → Option (List ℕ) → List Received
 received_of interface None = []
 received_of interface (Some message) = record { interface = interface; message = message } ∷ []
 
-abbrev pub received_then : Result Step ObjectFault → Way → (Way × List ℕ) → (Tracked → List Received) → List Received
+abbrev pub received_then : Result Admission ObjectFault → Way → (Way × List ℕ) → (Tracked → List Received) → List Received
 received_then (Err fault) way it next = []
 received_then (Ok done) way it next = received_of done.passed.interface (if_way way it) ++ next done.objects
 

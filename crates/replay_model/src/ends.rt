@@ -1,4 +1,4 @@
-// How a replay ends.
+//! How a replay ends.
 
 use wl_wire::ObjectFault;
 use wp_outside::Side;

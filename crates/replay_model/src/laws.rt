@@ -1,4 +1,4 @@
-// Laws of replays: each function does nothing, and its clauses are the laws.
+//! Laws of replays: each function does nothing, and its clauses are the laws.
 
 ghost use Rattle.replay_model.specs.RunLaws.{RunsHold, RunsEnd, DrainsWithoutStop, StopsAtStop, RunsAreAllowed, NoFaultComes, OneRun};
 

@@ -4,13 +4,8 @@
 
 mod ends;
 mod laws;
-mod plain;
 mod received;
 
 pub use ends::{End, Fault, Refusal};
 pub use laws::{one_run, orders_are_allowed, runs_hold, stops_at_stop};
-pub use plain::whole_frames;
 pub use received::Received;
-
-#[cfg(test)]
-mod tests;

@@ -1,4 +1,4 @@
-// What a peer receives.
+//! What a peer receives.
 
 use wl_tables::Interface;
 use wl_wire::Message;

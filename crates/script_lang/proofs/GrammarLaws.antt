@@ -1,359 +1,271 @@
--- The numbers of steps and of faults, and the causes that there are.
+-- What the lines of a script come to one behind another.
 --
--- The steps of lines are told line by line. So the numbers rise by induction on the lines, each law at `and_then`, which puts one
--- line before the others. That no cause is `NotBuilt` goes by the rows: a field gives `Form` or `Number` alone, and no combination of
--- fields gives another cause. Then it goes through the two tables, the words in front of them, and the names.
-use Rattle.std.proofs.Common.{◌≡◌, ℕ, ◌+◌, ◌<◌, ◌≤◌, Bool, true, false, cond, ◌&&◌, List, [], ◌∷◌, ◌++◌, Option, Some, None, Result, Ok, Err, length, refl, ap, subst, arith, ⊎_elim}
-use Rattle.std.specs.List.{list_all, list_any}
-use Rattle.std.specs.Map.{lookup}
-use Rattle.std.specs.Str.{bytes_eq}
-use Rattle.std.specs.Prelude.{codes, nat_lt, nat_le, is_some, is_none, if◌then◌else◌, ◌==◌, ◌/◌}
+-- The steps of lines are told line by line. So one induction on the lines tells all of it: where there are steps, they are those of
+-- the lines that are not skipped; where a line is refused, the lines before it are a script, and it is none behind them.
+use Rattle.std.proofs.Common.{◌≡◌, ℕ, suc, ◌+◌, ◌-◌, ◌<◌, ◌≤◌, Bool, true, false, cond, List, [], ◌∷◌, ◌++◌, Option, Some, None, Result, Ok, Err, length, map, slice_get, refl, ap, ◌∙◌, sym, subst, arith, append_assoc, length-append, ⊎_elim}
+use Rattle.std.specs.List.{AllByRecursion}
+use Rattle.std.specs.Prelude.{nat_lt, ◌↔◌}
 use Rattle.std.proofs.lemmas.Bool.Decides.{nat_tests}
 use Rattle.std.proofs.lemmas.Bool.{cases_lt}
-use Rattle.wp_outside.specs.declared.kinds.Direction.TheVariants.{Up, Down}
+use Rattle.wl_text.specs.TextLaws.{ReadIsVisible}
 use Rattle.wp_outside.specs.declared.kinds.Side.{Side}
-use Rattle.wp_outside.specs.declared.kinds.Side.TheVariants.{Near, Far}
-use Rattle.wl_text.specs.Text.{message_of}
-use Rattle.wl_text.specs.declared.text_message.TextMessage.{TextMessage}
-use Rattle.script_lang.specs.Fields.{one_of, two_of, three_of, four_of}
-use Rattle.script_lang.specs.Grammar.{steps_of, steps_from, and_then, onto_steps, line_of, names_after, named, unless_fault}
-use Rattle.script_lang.specs.Kinds.{Kind, number, count, place, word, size, received, own, bytes, byte, who, direction}
-use Rattle.script_lang.specs.Laws.{RiseBetween, LinesRise, FaultIsALine, TooManyLines, OnlyTested, StopEnds}
-use Rattle.script_lang.specs.Lines.{asked, asked_by, peer_line, told, message_line, said, other_line, way_of, is_printable, is_skipped}
-use Rattle.script_lang.specs.Names.{Names, Owned, no_names, naming, fault_by, fault_of, grow_fault, fill_fault, shut_fault, unless, thing_of, can_grow, most}
-use Rattle.script_lang.specs.Pieces.{lines, front, behind, fields_behind}
+use Rattle.script_lang.specs.Grammar.{steps_of, steps_of_lines, steps_from, and_then, onto_steps, line_of, names_after}
+use Rattle.script_lang.specs.Laws.{told_lines, IsAsked, HasItsSteps, OneStepEach, IsFirstFault, FirstFault, TooManyLines, OnlyTested, StopEnds}
+use Rattle.script_lang.specs.Lines.{asked, is_skipped}
+use Rattle.script_lang.specs.Names.{Names, no_names}
+use Rattle.script_lang.specs.Pieces.{lines}
 use Rattle.script_lang.specs.Puts.{is_stop, put_by_all, before_stop}
-use Rattle.script_lang.specs.Rows.{Row, ranged, read, both, only, only_of, pair, pair_of, made, none, one, two, three, three_by, four, four_by, peer_rows, link_rows, other_rows}
 use Rattle.script_lang.specs.declared.causes.ScriptCause.{ScriptCause}
-use Rattle.script_lang.specs.declared.causes.ScriptCause.TheVariants.{Text, Word, Form, Number, Name, NotBuilt}
+use Rattle.script_lang.specs.declared.causes.ScriptCause.TheVariants.{NotBuilt}
 use Rattle.script_lang.specs.declared.causes.ScriptRead.{ScriptRead}
 use Rattle.script_lang.specs.declared.causes.ScriptRead.TheVariants.{Fault, Lines, Memory}
 use Rattle.script_lang.specs.declared.steps.Step.{Step}
 use Rattle.script_lang.specs.declared.steps.StepKind.{StepKind}
-use Rattle.script_lang.specs.declared.steps.StepKind.TheVariants as step
-use Rattle.script_lang.specs.declared.things.Thing.{Thing}
-use Rattle.script_lang.specs.declared.things.Thing.TheVariants.{File, Pipe}
+use Rattle.script_lang.proofs.LineLaws.{IsTold, line_told}
+use Rattle.script_lang.proofs.ReadingLemmas.{behind_steps, behind_onto}
 
--- what is refused is refused for a cause that is tested
-abbrev Tested : {A : Type 0} → Result A ScriptCause → Type 0
-Tested told = told ≡ Err NotBuilt → ⊥
+-- the names behind lines
+abbrev names_behind : Names → List (List ℕ) → Names
+names_behind names [] = names
+names_behind names (text ∷ texts) = names_behind (names_after names (line_of names text)) texts
 
-choice_tested : {A : Type 0} (test : Bool) (a b : Result A ScriptCause) → Tested a → Tested b → Tested (cond test a b)
-choice_tested true a b p q = p
-choice_tested false a b p q = q
+-- a step of one of these lines, of which the first has this number
+record AskedFrom (line : ℕ) (texts : List (List ℕ)) (it : Step) : Type 0 where
+  text : List ℕ
+  low : line ≤ it.line
+  stands : slice_get texts (it.line - line) ≡ Some text
+  asks : asked text ≡ Ok it.what
 
-form : {A : Type 0} → Tested {A = A} (Err Form)
-form h = cc h
+-- the lines before a fault are read, and its own is none behind them
+record FaultFrom (names : Names) (line : ℕ) (texts : List (List ℕ)) (at : ℕ) (cause : ScriptCause) : Type 0 where
+  before : List (List ℕ)
+  text : List ℕ
+  further : List (List ℕ)
+  parts : texts ≡ before ++ text ∷ further
+  number : at ≡ line + length before
+  steps : List Step
+  script : steps_from names line before ≡ Ok steps
+  none : line_of (names_behind names before) text ≡ Err cause
+  tested : cause ≡ NotBuilt → ⊥
 
-ranged_tested : {A : Type 0} (kind : Kind A) (field : List ℕ) → Tested (ranged kind field)
-ranged_tested kind field = choice_tested (kind.range field) (Ok (kind.value field)) (Err Number) (λ h. cc h) (λ h. cc h)
+-- what lines come to, of which the first has this number
+abbrev StepsTell : Names → ℕ → List (List ℕ) → Result (List Step) ScriptRead → Type 0
+StepsTell names line texts (Ok steps) = (map (λ it. it.line) steps ≡ told_lines line texts) × AllByRecursion (AskedFrom line texts) steps
+StepsTell names line texts (Err (Fault at cause)) = FaultFrom names line texts at cause
+StepsTell names line texts (Err Lines) = ⊥
+StepsTell names line texts (Err Memory) = ⊥
 
-read_tested : {A : Type 0} (kind : Kind A) (field : List ℕ) → Tested (read kind field)
-read_tested kind field = choice_tested (kind.form field) (ranged kind field) (Err Form) (ranged_tested kind field) form
+asked_behind : (line : ℕ) (text : List ℕ) (texts : List (List ℕ)) (it : Step) → AskedFrom (line + 1) texts it → AskedFrom line (text ∷ texts) it
+asked_behind line text texts it is =
+    let place : it.line - line ≡ suc (it.line - (line + 1)) = omega (arith, is.low) in
+    record { text = is.text; low = omega (arith, is.low); stands = ap (slice_get (text ∷ texts)) place ∙ is.stands; asks = is.asks }
 
-both_tested : {A B : Type 0} (a : Result A ScriptCause) (b : Result B ScriptCause) → Tested a → Tested b → Tested (both a b)
-both_tested (Ok a) (Ok b) p q = λ h. cc h
-both_tested (Ok a) (Err cause) p q = λ h. q (cc h)
-both_tested (Err cause) b p q = λ h. p (cc h)
+all_behind : (line : ℕ) (text : List ℕ) (texts : List (List ℕ)) (steps : List Step) → AllByRecursion (AskedFrom (line + 1) texts) steps → AllByRecursion (AskedFrom line (text ∷ texts)) steps
+all_behind line text texts [] all = tt
+all_behind line text texts (it ∷ steps) all = (asked_behind line text texts it all.0, all_behind line text texts steps all.1)
 
-made_tested : {A : Type 0} (make : A → StepKind) (told : Result A ScriptCause) → Tested told → Tested (made make told)
-made_tested make (Ok a) p = λ h. cc h
-made_tested make (Err cause) p = λ h. p (cc h)
+-- a step onto others, and a fault stays
+onto_ok : (it : Step) (steps : List Step) (told : Result (List Step) ScriptRead) → told ≡ Ok steps → onto_steps it told ≡ Ok (it ∷ steps)
+onto_ok it steps told is = ap (onto_steps it) is
 
--- the fields of a row
-abbrev RowTested : Row → Type 0
-RowTested row = (given : List (List ℕ)) → Tested (row given)
+-- one line that was told, before others
+module _ (names : Names) (line : ℕ) (text : List ℕ) (texts : List (List ℕ)) where
+  -- a fault behind a line that goes on
+  fault_behind : (told : Result (Option StepKind) ScriptCause) (at : ℕ) (cause : ScriptCause) → line_of names text ≡ told
+      → ((before : List (List ℕ)) (steps : List Step) → steps_from (names_after names told) (line + 1) before ≡ Ok steps → (more : List Step) × (and_then line told (Ok steps) ≡ Ok more))
+      → FaultFrom (names_after names told) (line + 1) texts at cause → FaultFrom names line (text ∷ texts) at cause
+  fault_behind told at cause is goes_on rest =
+      let more = goes_on rest.before rest.steps rest.script in
+      let after : names_after names (line_of names text) ≡ names_after names told = ap (names_after names) is in
+      record {
+        before = text ∷ rest.before;
+        text = rest.text;
+        further = rest.further;
+        parts = ap (λ them. text ∷ them) rest.parts;
+        number = omega (arith, rest.number);
+        steps = more.0;
+        script = ap (λ it. and_then line it (steps_from (names_after names it) (line + 1) rest.before)) is ∙ ap (and_then line told) rest.script ∙ more.1;
+        none = ap (λ them. line_of (names_behind them rest.before) rest.text) after ∙ rest.none;
+        tested = rest.tested;
+      }
 
-none_tested : (what : StepKind) → RowTested (none what)
-none_tested what [] = λ h. cc h
-none_tested what (a ∷ others) = form
+  one_tells : (told : Result (Option StepKind) ScriptCause) (others : Result (List Step) ScriptRead) → line_of names text ≡ told → IsTold text told
+      → StepsTell (names_after names told) (line + 1) texts others → StepsTell names line (text ∷ texts) (and_then line told others)
+  one_tells (Err cause) others is told rest = record {
+    before = [];
+    text = text;
+    further = texts;
+    parts = refl;
+    number = omega arith;
+    steps = [];
+    script = refl;
+    none = is;
+    tested = told;
+  }
+  one_tells (Ok None) (Ok steps) is told rest = (rw told rest.0, all_behind line text texts steps rest.1)
+  one_tells (Ok None) (Err (Fault at cause)) is told rest = fault_behind (Ok None) at cause is (λ before steps script. (steps, refl)) rest
+  one_tells (Ok None) (Err Lines) is told rest = rest
+  one_tells (Ok None) (Err Memory) is told rest = rest
+  one_tells (Ok (Some what)) (Ok steps) is told rest =
+      let here : line - line ≡ 0 = omega arith in (
+        rw told.0 (ap (λ them. line ∷ them) rest.0),
+        (record { text = text; low = omega arith; stands = ap (slice_get (text ∷ texts)) here; asks = told.1 }, all_behind line text texts steps rest.1),
+      )
+  one_tells (Ok (Some what)) (Err (Fault at cause)) is told rest =
+      fault_behind (Ok (Some what)) at cause is (λ before steps script. (record { line = line; what = what } ∷ steps, refl)) rest
+  one_tells (Ok (Some what)) (Err Lines) is told rest = rest
+  one_tells (Ok (Some what)) (Err Memory) is told rest = rest
 
-only_tested : {A : Type 0} (kind : Kind A) (given : Option (List ℕ)) → Tested (only_of kind given)
-only_tested kind (Some a) = read_tested kind a
-only_tested kind None = form
+-- lines that are read in two parts
+abbrev then_lines : Result (List Step) ScriptRead → Result (List Step) ScriptRead → Result (List Step) ScriptRead
+then_lines (Ok steps) further = behind_steps steps further
+then_lines (Err fault) further = Err fault
 
-one_tested : {A : Type 0} (kind : Kind A) (make : A → StepKind) → RowTested (one kind make)
-one_tested kind make given = made_tested make (only kind given) (only_tested kind (one_of given))
+and_then_lines : (line : ℕ) (told : Result (Option StepKind) ScriptCause) (first further : Result (List Step) ScriptRead) → and_then line told (then_lines first further) ≡ then_lines (and_then line told first) further
+and_then_lines line (Ok (Some what)) (Ok steps) (Ok more) = refl
+and_then_lines line (Ok (Some what)) (Ok steps) (Err fault) = refl
+and_then_lines line (Ok (Some what)) (Err fault) further = refl
+and_then_lines line (Ok None) (Ok steps) further = refl
+and_then_lines line (Ok None) (Err fault) further = refl
+and_then_lines line (Err cause) first further = refl
 
-pair_tested : {A B : Type 0} (first : Kind A) (second : Kind B) (given : Option (List ℕ × List ℕ)) → Tested (pair_of first second given)
-pair_tested first second (Some (a, b)) =
-    choice_tested (first.form a && second.form b) (both (ranged first a) (ranged second b)) (Err Form)
-    (both_tested (ranged first a) (ranged second b) (ranged_tested first a) (ranged_tested second b)) form
-pair_tested first second None = form
+behind_none : (told : Result (List Step) ScriptRead) → behind_steps [] told ≡ told
+behind_none (Ok steps) = refl
+behind_none (Err fault) = refl
 
-two_tested : {A B : Type 0} (first : Kind A) (second : Kind B) (make : A → B → StepKind) → RowTested (two first second make)
-two_tested first second make given = made_tested (λ values. make values.0 values.1) (pair first second given) (pair_tested first second (two_of given))
+in_parts : (names : Names) (line : ℕ) (before behind : List (List ℕ)) → steps_from names line (before ++ behind) ≡ then_lines (steps_from names line before) (steps_from (names_behind names before) (line + length before) behind)
+in_parts names line [] behind =
+    let same : line + 0 ≡ line = omega arith in
+    sym (behind_none (steps_from names (line + 0) behind) ∙ ap (λ n. steps_from names n behind) same)
+in_parts names line (text ∷ before) behind =
+    let told : Result (Option StepKind) ScriptCause = line_of names text in
+    let next : Names = names_after names told in
+    let place : line + 1 + length before ≡ line + length (text ∷ before) = omega arith in
+    ap (and_then line told) (in_parts next (line + 1) before behind)
+    ∙ and_then_lines line told (steps_from next (line + 1) before) (steps_from (names_behind next before) (line + 1 + length before) behind)
+    ∙ ap (λ n. then_lines (steps_from names line (text ∷ before)) (steps_from (names_behind next before) n behind)) place
 
-three_by_tested : {A B C : Type 0} (first : Kind A) (second : Kind B) (third : Kind C) (make : A → B → C → StepKind) (given : Option (List ℕ × List ℕ × List ℕ)) → Tested (three_by first second third make given)
-three_by_tested first second third make (Some (a, b, c)) =
-    let most = both_tested (ranged second b) (ranged third c) (ranged_tested second b) (ranged_tested third c) in
-    let all = both_tested (ranged first a) (both (ranged second b) (ranged third c)) (ranged_tested first a) most in
-    choice_tested (first.form a && second.form b && third.form c) (made (λ values. make values.0 values.1.0 values.1.1) (both (ranged first a) (both (ranged second b) (ranged third c)))) (Err Form)
-    (made_tested (λ values. make values.0 values.1.0 values.1.1) (both (ranged first a) (both (ranged second b) (ranged third c))) all) form
-three_by_tested first second third make None = form
+-- a line that is none behind those that are read
+last_fault : (steps : List Step) (line : ℕ) (told : Result (Option StepKind) ScriptCause) (others : Result (List Step) ScriptRead) (at : ℕ) (cause : ScriptCause)
+    → others ≡ Ok [] → behind_steps steps (and_then line told others) ≡ Err (Fault at cause) → (told ≡ Err cause) × (at ≡ line)
+last_fault steps line (Ok (Some what)) others at cause is refused = absurd (cc (ap (λ it. behind_steps steps (onto_steps (record { line = line; what = what }) it)) is, refused))
+last_fault steps line (Ok None) others at cause is refused = absurd (cc (ap (behind_steps steps) is, refused))
+last_fault steps line (Err other) others at cause is refused = (ap Err (cc refused), cc refused)
 
-four_by_tested : {A B C D : Type 0} (first : Kind A) (second : Kind B) (third : Kind C) (fourth : Kind D) (make : A → B → C → D → StepKind) (given : Option (List ℕ × List ℕ × List ℕ × List ℕ)) → Tested (four_by first second third fourth make given)
-four_by_tested first second third fourth make (Some (a, b, c, d)) =
-    let some = both_tested (ranged third c) (ranged fourth d) (ranged_tested third c) (ranged_tested fourth d) in
-    let most = both_tested (ranged second b) (both (ranged third c) (ranged fourth d)) (ranged_tested second b) some in
-    let all = both_tested (ranged first a) (both (ranged second b) (both (ranged third c) (ranged fourth d))) (ranged_tested first a) most in
-    choice_tested (first.form a && second.form b && third.form c && fourth.form d) (made (λ values. make values.0 values.1.0 values.1.1.0 values.1.1.1) (both (ranged first a) (both (ranged second b) (both (ranged third c) (ranged fourth d))))) (Err Form)
-    (made_tested (λ values. make values.0 values.1.0 values.1.1.0 values.1.1.1) (both (ranged first a) (both (ranged second b) (both (ranged third c) (ranged fourth d)))) all) form
-four_by_tested first second third fourth make None = form
+module _ (visible : ReadIsVisible) where
+  steps_tell : (names : Names) (line : ℕ) (texts : List (List ℕ)) → StepsTell names line texts (steps_from names line texts)
+  steps_tell names line [] = (refl, tt)
+  steps_tell names line (text ∷ texts) =
+      one_tells names line text texts (line_of names text) _ refl (line_told visible names text) (steps_tell (names_after names (line_of names text)) (line + 1) texts)
 
-three_row_tested : {A B C : Type 0} (first : Kind A) (second : Kind B) (third : Kind C) (make : A → B → C → StepKind) → RowTested (three first second third make)
-three_row_tested first second third make given = three_by_tested first second third make (three_of given)
+-- lines that are few enough are read, and others are too many
+few_lines : (texts : List (List ℕ)) → length texts ≤ 200000 → steps_of_lines texts ≡ steps_from no_names 1 texts
+few_lines texts few = let test : nat_lt 200000 (length texts) ≡ false = grind (arith, nat_tests) in rw test refl
 
-four_row_tested : {A B C D : Type 0} (first : Kind A) (second : Kind B) (third : Kind C) (fourth : Kind D) (make : A → B → C → D → StepKind) → RowTested (four first second third fourth make)
-four_row_tested first second third fourth make given = four_by_tested first second third fourth make (four_of given)
+many_lines : (texts : List (List ℕ)) → 200000 < length texts → steps_of_lines texts ≡ Err Lines
+many_lines texts many = let test : nat_lt 200000 (length texts) ≡ true = grind (arith, nat_tests) in rw test refl
 
--- each row of a table
-abbrev RowsTested : List (List ℕ × Row) → Type 0
-RowsTested [] = Unit {0}
-RowsTested (entry ∷ rows) = RowTested entry.1 × RowsTested rows
+-- what all lines of a script come to
+abbrev ScriptTells : List (List ℕ) → Result (List Step) ScriptRead → Type 0
+ScriptTells texts (Ok steps) = (length texts ≤ 200000) × StepsTell no_names 1 texts (Ok steps)
+ScriptTells texts (Err (Fault at cause)) = (length texts ≤ 200000) × FaultFrom no_names 1 texts at cause
+ScriptTells texts (Err Lines) = 200000 < length texts
+ScriptTells texts (Err Memory) = ⊥
 
-abbrev FoundTested : Option Row → Type 0
-FoundTested (Some row) = RowTested row
-FoundTested None = Unit {0}
+few_tell : (texts : List (List ℕ)) (told : Result (List Step) ScriptRead) → length texts ≤ 200000 → StepsTell no_names 1 texts told → ScriptTells texts told
+few_tell texts (Ok steps) few tells = (few, tells)
+few_tell texts (Err (Fault at cause)) few tells = (few, tells)
+few_tell texts (Err Lines) few tells = absurd tells
+few_tell texts (Err Memory) few tells = tells
 
-lookup_tested : (test : List ℕ → Bool) (rows : List (List ℕ × Row)) → RowsTested rows → FoundTested (lookup test rows)
-lookup_tested test [] all = tt
-lookup_tested test (entry ∷ rows) all = elim (test entry.0) as (λ here. FoundTested (cond here (Some entry.1) (lookup test rows)))
-    [ true ↦ all.0 | false ↦ lookup_tested test rows all.1 ]
+-- the lines up to the first that is none, and what stands behind them
+module _ (texts before further : List (List ℕ)) (text : List ℕ) (parts : texts ≡ before ++ text ∷ further) (few : length texts ≤ 200000) where
+  long : length texts ≡ length before + suc (length further)
+  long = ap length parts ∙ length-append before (text ∷ further)
 
-peer_rows_tested : (peer : Side) → RowsTested (peer_rows peer)
-peer_rows_tested peer = (
-  one_tested bytes (step.Hex peer),
-  (
-    two_tested (own peer) size (step.File peer),
-    (
-      two_tested (own peer) size (step.Grow peer),
-      (
-        four_row_tested (own peer) place count word (step.Fill peer),
-        (
-          one_tested (own peer) (step.Pipe peer),
-          (
-            one_tested (own peer) (step.Give peer),
-            (
-              two_tested received bytes (step.Put peer),
-              (
-                one_tested received (step.End peer),
-                (
-                  one_tested (own peer) (step.Shut peer),
-                  (one_tested (number 0 1000000) (step.Await peer), tt),
-                ),
-              ),
-            ),
-          ),
-        ),
-      ),
-    ),
-  ),
-)
+  read_before : steps_of_lines before ≡ steps_from no_names 1 before
+  read_before = few_lines before (omega (arith, long, few))
 
-link_rows_tested : RowsTested link_rows
-link_rows_tested = (
-  none_tested step.Connect,
-  (
-    none_tested step.Break,
-    (
-      two_tested direction count step.Send,
-      (
-        two_tested direction count step.Recv,
-        (
-          one_tested count (step.Both Up),
-          (
-            one_tested count (step.Both Down),
-            (
-              three_row_tested direction place byte step.Spoil,
-              (two_tested direction place step.Cut, tt),
-            ),
-          ),
-        ),
-      ),
-    ),
-  ),
-)
+  read_up_to : (steps : List Step) → steps_from no_names 1 before ≡ Ok steps
+      → steps_of_lines (before ++ text ∷ []) ≡ behind_steps steps (and_then (1 + length before) (line_of (names_behind no_names before) text) (Ok []))
+  read_up_to steps script =
+      let last = length-append before (text ∷ []) in
+      few_lines (before ++ text ∷ []) (omega (arith, long, few, last)) ∙ in_parts no_names 1 before (text ∷ [])
+      ∙ ap (λ it. then_lines it (and_then (1 + length before) (line_of (names_behind no_names before) text) (Ok []))) script
 
-other_rows_tested : RowsTested other_rows
-other_rows_tested = (
-  two_tested who count step.Take,
-  (
-    one_tested count step.Load,
-    (
-      one_tested who step.Close,
-      (
-        none_tested step.Settle,
-        (
-          one_tested count step.Drain,
-          (none_tested step.Stop, link_rows_tested),
-        ),
-      ),
-    ),
-  ),
-)
+  read_all : (steps : List Step) (cause : ScriptCause) → steps_from no_names 1 before ≡ Ok steps → line_of (names_behind no_names before) text ≡ Err cause
+      → steps_of_lines texts ≡ Err (Fault (1 + length before) cause)
+  read_all steps cause script none =
+      let names : Names = names_behind no_names before in
+      let place : ℕ = 1 + length before in
+      let others : Result (List Step) ScriptRead = steps_from (names_after names (line_of names text)) (place + 1) further in
+      few_lines texts few ∙ ap (steps_from no_names 1) parts ∙ in_parts no_names 1 before (text ∷ further)
+      ∙ ap (λ it. then_lines it (and_then place (line_of names text) others)) script
+      ∙ ap (λ it. behind_steps steps (and_then place it others)) none
 
--- one line
-said_tested : (peer : Side) (message : Option TextMessage) → Tested (said peer message)
-said_tested peer (Some message) = λ h. cc h
-said_tested peer None = λ h. cc h
+is_first_fault : (texts : List (List ℕ)) (line : ℕ) (cause : ScriptCause) → length texts ≤ 200000 → FaultFrom no_names 1 texts line cause → IsFirstFault texts line cause
+is_first_fault texts line cause few is =
+    let place : 1 + length is.before ≡ line = sym is.number in
+    record {
+      few = few;
+      before = is.before;
+      text = is.text;
+      behind = is.further;
+      parts = is.parts;
+      number = omega (arith, is.number);
+      steps = is.steps;
+      script = read_before texts is.before is.further is.text is.parts few ∙ is.script;
+      refused = read_up_to texts is.before is.further is.text is.parts few is.steps is.script
+          ∙ ap (λ it. behind_steps is.steps (and_then (1 + length is.before) it (Ok []))) is.none ∙ ap (λ n. Err (Fault n cause)) place;
+    }
 
-message_tested : (peer : Side) (first text : List ℕ) → Tested (message_line peer first text)
-message_tested peer first text = choice_tested (list_any (λ byte. byte == 64) first) (said peer (message_of (way_of peer) text)) (Err Word)
-    (said_tested peer (message_of (way_of peer) text)) (λ h. cc h)
+first_is_fault : (texts : List (List ℕ)) (line : ℕ) (cause : ScriptCause) → IsFirstFault texts line cause → steps_of_lines texts ≡ Err (Fault line cause)
+first_is_fault texts line cause is =
+    let script : steps_from no_names 1 is.before ≡ Ok is.steps = sym (read_before texts is.before is.behind is.text is.parts is.few) ∙ is.script in
+    let refused = sym (read_up_to texts is.before is.behind is.text is.parts is.few is.steps script) ∙ is.refused in
+    let fault = last_fault is.steps (1 + length is.before) (line_of (names_behind no_names is.before) is.text) (Ok []) line cause refl refused in
+    read_all texts is.before is.behind is.text is.parts is.few is.steps cause script fault.0 ∙ ap (λ n. Err (Fault n cause)) (sym fault.1)
 
-told_tested : (peer : Side) (rest : List ℕ) (found : Option Row) → FoundTested found → Tested (told peer rest found)
-told_tested peer rest (Some row) all = all (fields_behind (behind 32 rest))
-told_tested peer rest None all = message_tested peer (front 32 rest) rest
+all_asked : (texts : List (List ℕ)) (steps : List Step) → AllByRecursion (AskedFrom 1 texts) steps → AllByRecursion (IsAsked texts) steps
+all_asked texts [] all = tt
+all_asked texts (it ∷ steps) all = (record { text = all.0.text; stands = all.0.stands; asks = all.0.asks }, all_asked texts steps all.1)
 
-peer_tested : (peer : Side) (rest : Option (List ℕ)) → Tested (peer_line peer rest)
-peer_tested peer None = form
-peer_tested peer (Some rest) = told_tested peer rest _ (lookup_tested (bytes_eq (front 32 rest)) (peer_rows peer) (peer_rows_tested peer))
+too_many : (texts : List (List ℕ)) (told : Result (List Step) ScriptRead) → told ≡ Err Lines → ScriptTells texts told → 200000 < length texts
+too_many texts (Ok steps) is tells = absurd (cc is)
+too_many texts (Err (Fault at cause)) is tells = absurd (cc is)
+too_many texts (Err Lines) is tells = tells
+too_many texts (Err Memory) is tells = absurd tells
 
-other_tested : (rest : Option (List ℕ)) (found : Option Row) → FoundTested found → Tested (other_line rest found)
-other_tested rest (Some row) all = all (fields_behind rest)
-other_tested rest None all = λ h. cc h
+module _ (visible : ReadIsVisible) where
+  script_tells : (texts : List (List ℕ)) → ScriptTells texts (steps_of_lines texts)
+  script_tells texts = ⊎_elim
+      (λ many. subst (ScriptTells texts) (sym (many_lines texts many)) many)
+      (λ few. subst (ScriptTells texts) (sym (few_lines texts few)) (few_tell texts (steps_from no_names 1 texts) few (steps_tell visible no_names 1 texts)))
+      (cases_lt 200000 (length texts))
 
-word_tested : (word : List ℕ) (rest : Option (List ℕ)) → Tested (asked_by word rest)
-word_tested word rest =
-    let others = other_tested rest (lookup (bytes_eq word) other_rows) (lookup_tested (bytes_eq word) other_rows other_rows_tested) in
-    choice_tested (bytes_eq word (codes "app")) (peer_line Near rest) _ (peer_tested Near rest)
-    (choice_tested (bytes_eq word (codes "comp")) (peer_line Far rest) (other_line rest (lookup (bytes_eq word) other_rows)) (peer_tested Far rest) others)
+  pub one_step_each : OneStepEach
+  unfolding steps_of
+  one_step_each bytes steps is =
+      let tells = subst (ScriptTells (lines bytes)) is (script_tells (lines bytes)) in
+      record { told = tells.1.0; asked = all_asked (lines bytes) steps tells.1.1 }
 
-asked_tested : (line : List ℕ) → Tested (asked line)
-unfolding asked
-asked_tested line = choice_tested (list_all is_printable line) (asked_by (front 32 line) (behind 32 line)) (Err Text) (word_tested (front 32 line) (behind 32 line)) (λ h. cc h)
+  pub first_fault : FirstFault
+  unfolding steps_of
+  first_fault bytes line cause = (
+    λ is. let tells = subst (ScriptTells (lines bytes)) is (script_tells (lines bytes)) in is_first_fault (lines bytes) line cause tells.0 tells.1,
+    first_is_fault (lines bytes) line cause,
+  )
 
--- the names
-abbrev NameTested : Option ScriptCause → Type 0
-NameTested fault = fault ≡ Some NotBuilt → ⊥
+  pub too_many_lines : TooManyLines
+  unfolding steps_of
+  too_many_lines bytes = (λ is. too_many (lines bytes) (steps_of_lines (lines bytes)) is (script_tells (lines bytes)), many_lines (lines bytes))
 
-unless_tested : (holds : Bool) (cause : ScriptCause) (further : Option ScriptCause) → NameTested (Some cause) → NameTested further → NameTested (unless holds cause further)
-unless_tested true cause further now later = later
-unless_tested false cause further now later = now
-
-named_unless : (holds : Bool) → NameTested (unless holds Name None)
-named_unless holds = unless_tested holds Name None (λ h. cc h) (λ h. cc h)
-
-grow_tested : (owned : Owned) (size : ℕ) (found : Option Thing) → NameTested (grow_fault owned size found)
-grow_tested owned size (Some (File old segments)) = unless_tested (can_grow owned old segments size) Number None (λ h. cc h) (λ h. cc h)
-grow_tested owned size (Some Pipe) = λ h. cc h
-grow_tested owned size None = λ h. cc h
-
-fill_tested : (end : ℕ) (found : Option Thing) → NameTested (fill_fault end found)
-fill_tested end (Some (File size segments)) = named_unless (nat_le end (size / 8))
-fill_tested end (Some Pipe) = λ h. cc h
-fill_tested end None = λ h. cc h
-
-shut_tested : (found : Option Thing) → NameTested (shut_fault found)
-shut_tested (Some (File size segments)) = λ h. cc h
-shut_tested (Some Pipe) = λ h. cc h
-shut_tested None = λ h. cc h
-
-fault_tested : (owned : Owned) (what : StepKind) → NameTested (fault_of owned what)
-fault_tested owned (step.File peer number size) = unless_tested (nat_le (owned.total + size) most) Number _ (λ h. cc h) (named_unless (is_none (thing_of owned number)))
-fault_tested owned (step.Grow peer number size) = grow_tested owned size (thing_of owned number)
-fault_tested owned (step.Fill peer number first count value) = fill_tested (first + count) (thing_of owned number)
-fault_tested owned (step.Pipe peer number) = named_unless (is_none (thing_of owned number))
-fault_tested owned (step.Give peer number) = named_unless (is_some (thing_of owned number))
-fault_tested owned (step.Shut peer number) = shut_tested (thing_of owned number)
-fault_tested owned (step.Say peer message) = named_unless (list_all (λ number. is_some (thing_of owned number)) message.handles)
-fault_tested owned _ = λ h. cc h
-
-by_tested : (names : Names) (peer : Option Side) (what : StepKind) → NameTested (fault_by names peer what)
-by_tested names (Some Near) what = fault_tested names.near what
-by_tested names (Some Far) what = fault_tested names.far what
-by_tested names None what = λ h. cc h
-
-unless_fault_tested : (fault : Option ScriptCause) (what : StepKind) → NameTested fault → Tested (unless_fault fault what)
-unless_fault_tested (Some cause) what p = λ h. p (cc h)
-unless_fault_tested None what p = λ h. cc h
-
-named_tested : (names : Names) (told : Result StepKind ScriptCause) → Tested told → Tested (named names told)
-named_tested names (Ok what) p = unless_fault_tested (fault_by names (naming what) what) what (by_tested names (naming what) what)
-named_tested names (Err cause) p = λ h. p (cc h)
-
-line_tested : (names : Names) (line : List ℕ) → Tested (line_of names line)
-line_tested names line = choice_tested (is_skipped line) (Ok None) (named names (asked line)) (λ h. cc h) (named_tested names (asked line) (asked_tested line))
-
--- the steps, or the refusal, of lines of this number on
-abbrev StepsTested : ℕ → ℕ → Result (List Step) ScriptRead → Type 0
-StepsTested line end (Ok steps) = RiseBetween line end steps
-StepsTested line end (Err (Fault at cause)) = (line ≤ at) × (at < end) × (cause ≡ NotBuilt → ⊥)
-StepsTested line end (Err Lines) = ⊥
-StepsTested line end (Err Memory) = ⊥
-
--- from an earlier line on too
-earlier : (line end : ℕ) (steps : List Step) → RiseBetween (line + 1) end steps → RiseBetween line end steps
-earlier line end [] rise = omega arith
-earlier line end (it ∷ steps) rise = (omega (arith, rise.0), rise.1)
-
-earlier_told : (line end : ℕ) (further : Result (List Step) ScriptRead) → StepsTested (line + 1) end further → StepsTested line end further
-earlier_told line end (Ok steps) p = earlier line end steps p
-earlier_told line end (Err (Fault at cause)) p = (omega (arith, p.0), p.1, p.2)
-earlier_told line end (Err Lines) p = p
-earlier_told line end (Err Memory) p = p
-
-onto_tested : (line end : ℕ) (what : StepKind) (further : Result (List Step) ScriptRead) → StepsTested (line + 1) end further → StepsTested line end (onto_steps (record { line = line; what = what }) further)
-onto_tested line end what (Ok steps) p = (omega arith, p)
-onto_tested line end what (Err (Fault at cause)) p = (omega (arith, p.0), p.1, p.2)
-onto_tested line end what (Err Lines) p = p
-onto_tested line end what (Err Memory) p = p
-
-and_tested : (line end : ℕ) (told : Result (Option StepKind) ScriptCause) (further : Result (List Step) ScriptRead) → line < end → Tested told → StepsTested (line + 1) end further → StepsTested line end (and_then line told further)
-and_tested line end (Ok (Some what)) further inside p q = onto_tested line end what further q
-and_tested line end (Ok None) further inside p q = earlier_told line end further q
-and_tested line end (Err cause) further inside p q = (omega arith, inside, λ is. p (ap Err is))
-
-steps_tested : (names : Names) (line end : ℕ) (texts : List (List ℕ)) → line + length texts ≡ end → StepsTested line end (steps_from names line texts)
-steps_tested names line end [] is = omega arith
-steps_tested names line end (text ∷ texts) is =
-    and_tested line end (line_of names text) (steps_from (names_after names (line_of names text)) (line + 1) texts) (omega arith) (line_tested names text)
-    (steps_tested (names_after names (line_of names text)) (line + 1) end texts (omega arith))
-
--- whole scripts
-abbrev ScriptTested : ℕ → Result (List Step) ScriptRead → Type 0
-ScriptTested total (Ok steps) = RiseBetween 1 (total + 1) steps × (total ≤ 200000)
-ScriptTested total (Err (Fault at cause)) = (1 ≤ at) × (at ≤ total) × (cause ≡ NotBuilt → ⊥) × (total ≤ 200000)
-ScriptTested total (Err Lines) = 200000 < total
-ScriptTested total (Err Memory) = ⊥
-
-few_tested : (total : ℕ) (told : Result (List Step) ScriptRead) → total ≤ 200000 → StepsTested 1 (total + 1) told → ScriptTested total told
-few_tested total (Ok steps) few p = (p, few)
-few_tested total (Err (Fault at cause)) few p = (p.0, omega (arith, p.1), p.2, few)
-few_tested total (Err Lines) few p = absurd p
-few_tested total (Err Memory) few p = p
-
-counted_tested : (total : ℕ) (told : Result (List Step) ScriptRead) → StepsTested 1 (total + 1) told → ScriptTested total (if nat_lt 200000 total then Err Lines else told)
-counted_tested total told p = ⊎_elim
-    (λ many. let test : nat_lt 200000 total ≡ true = grind (arith, nat_tests) in rw test many)
-    (λ few. let test : nat_lt 200000 total ≡ false = grind (arith, nat_tests) in rw test (few_tested total told few p))
-    (cases_lt 200000 total)
-
-script_tested : (bytes : List ℕ) → ScriptTested (length (lines bytes)) (steps_of bytes)
-unfolding steps_of
-script_tested bytes = counted_tested (length (lines bytes)) (steps_from no_names 1 (lines bytes)) (steps_tested no_names 1 (length (lines bytes) + 1) (lines bytes) (omega arith))
-
-pub lines_rise : LinesRise
-lines_rise bytes steps is = (subst (ScriptTested (length (lines bytes))) is (script_tested bytes)).0
-
-pub fault_is_a_line : FaultIsALine
-fault_is_a_line bytes line cause is = let p = subst (ScriptTested (length (lines bytes))) is (script_tested bytes) in (p.0, p.1)
-
-too_many : (total : ℕ) (told : Result (List Step) ScriptRead) → ScriptTested total told → 200000 < total → told ≡ Err Lines
-too_many total (Ok steps) p many = absurd (omega (arith, p.1))
-too_many total (Err (Fault at cause)) p many = absurd (omega (arith, p.3))
-too_many total (Err Lines) p many = refl
-too_many total (Err Memory) p many = absurd p
-
-pub too_many_lines : TooManyLines
-too_many_lines bytes = (λ is. subst (ScriptTested (length (lines bytes))) is (script_tested bytes), too_many (length (lines bytes)) (steps_of bytes) (script_tested bytes))
-
-pub only_tested_causes : OnlyTested
-only_tested_causes = record {
-  cause = λ bytes line is. (subst (ScriptTested (length (lines bytes))) is (script_tested bytes)).2 refl;
-  memory = λ bytes is. subst (ScriptTested (length (lines bytes))) is (script_tested bytes);
-}
+  pub only_tested : OnlyTested
+  unfolding steps_of
+  only_tested = record {
+    cause = λ bytes line is. (subst (ScriptTells (lines bytes)) is (script_tells (lines bytes))).1.tested refl;
+    memory = λ bytes is. subst (ScriptTells (lines bytes)) is (script_tells (lines bytes));
+  }
 
 -- a `stop` and what is behind it
 stopped : (before behind : List Step) (it : Step) → is_stop it.what ≡ true → before_stop (before ++ it ∷ behind) ≡ before_stop before

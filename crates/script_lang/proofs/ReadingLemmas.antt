@@ -15,7 +15,7 @@ abbrev pub behind_steps : List Step → Result (List Step) ScriptRead → Result
 behind_steps before (Ok further) = Ok (before ++ further)
 behind_steps before (Err fault) = Err fault
 
-behind_onto : (before : List Step) (it : Step) (further : Result (List Step) ScriptRead) → behind_steps (before ++ it ∷ []) further ≡ behind_steps before (onto_steps it further)
+pub behind_onto : (before : List Step) (it : Step) (further : Result (List Step) ScriptRead) → behind_steps (before ++ it ∷ []) further ≡ behind_steps before (onto_steps it further)
 behind_onto before it (Ok further) = ap Ok (append_assoc before (it ∷ []) further)
 behind_onto before it (Err fault) = refl
 

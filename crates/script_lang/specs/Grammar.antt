@@ -1,5 +1,6 @@
 -- Which texts are scripts, and the steps of those that are. The language is this project's own.
-use Rattle.std.specs.Prelude.{◌≡◌, ℕ, ◌+◌, List, [], ◌∷◌, Option, Some, None, Result, Ok, Err, if◌then◌else◌, nat_lt, length}
+use Rattle.std.specs.Prelude.{◌≡◌, ℕ, ◌+◌, List, [], ◌∷◌, Option, Some, None, Result, Ok, Err}
+use Rattle.std.specs.Prelude.{if◌then◌else◌, nat_lt, length}
 use Rattle.script_lang.specs.Lines.{is_skipped, asked}
 use Rattle.script_lang.specs.Names.{Names, no_names, naming, fault_by, after_by}
 use Rattle.script_lang.specs.Pieces.{lines}
@@ -20,7 +21,8 @@ abbrev pub named : Names → Result StepKind ScriptCause → Result (Option Step
 named names (Ok what) = unless_fault (fault_by names (naming what) what) what
 named names (Err cause) = Err cause
 
--- what a line asks for, nothing where it is skipped, or the first cause for which it is no line of a script
+-- what a line asks for, nothing where it is skipped, or the first cause for which it is no line of
+-- a script
 abbrev pub line_of : Names → List ℕ → Result (Option StepKind) ScriptCause
 line_of names line = if is_skipped line then Ok None else named names (asked line)
 
@@ -34,7 +36,9 @@ onto_steps it (Ok steps) = Ok (it ∷ steps)
 onto_steps it (Err fault) = Err fault
 
 -- a line with its number, and the lines behind it
-abbrev pub and_then : ℕ → Result (Option StepKind) ScriptCause → Result (List Step) ScriptRead → Result (List Step) ScriptRead
+abbrev pub and_then :
+    ℕ → Result (Option StepKind) ScriptCause → Result (List Step) ScriptRead
+    → Result (List Step) ScriptRead
 and_then line (Ok (Some what)) further = onto_steps (record { line = line; what = what }) further
 and_then line (Ok None) further = further
 and_then line (Err cause) further = Err (Fault line cause)
@@ -42,11 +46,18 @@ and_then line (Err cause) further = Err (Fault line cause)
 -- the steps of lines, whose first has this number
 abbrev pub steps_from : Names → ℕ → List (List ℕ) → Result (List Step) ScriptRead
 steps_from names line [] = Ok []
-steps_from names line (text ∷ texts) = and_then line (line_of names text) (steps_from (names_after names (line_of names text)) (line + 1) texts)
+steps_from names line (text ∷ texts) =
+    and_then line (line_of names text)
+    (steps_from (names_after names (line_of names text)) (line + 1) texts)
+
+-- the steps of the lines of a script, or why they are none
+abbrev pub steps_of_lines : List (List ℕ) → Result (List Step) ScriptRead
+steps_of_lines texts =
+    if nat_lt 200000 (length texts) then Err Lines else steps_from no_names 1 texts
 
 -- the steps of a script, or why it is none
 unfoldable pub steps_of : List ℕ → Result (List Step) ScriptRead
-steps_of bytes = if nat_lt 200000 (length (lines bytes)) then Err Lines else steps_from no_names 1 (lines bytes)
+steps_of bytes = steps_of_lines (lines bytes)
 
 -- the answer is that script, or why it is none; want of memory alone is free
 abbrev pub ReadsScript : Result Script ScriptRead → Result (List Step) ScriptRead → Type 0

@@ -1,10 +1,12 @@
--- What one line of a script asks for, whatever stood before it; the language is this project's own, and a message is that of the Wayland protocol which its text names.
-use Rattle.std.specs.Prelude.{ℕ, Bool, true, ◌&&◌, List, [], ◌∷◌, Option, Some, None, Result, Ok, Err, if◌then◌else◌, nat_le, ◌==◌, codes}
+-- What one line of a script asks for, whatever stood before it; the language is this project's own,
+-- and a message is that of the Wayland protocol which its text names.
+use Rattle.std.specs.Prelude.{ℕ, Bool, true, List, [], ◌∷◌, Option, Some, None, Result, Ok, Err}
+use Rattle.std.specs.Prelude.{if◌then◌else◌, ◌==◌, codes}
 use Rattle.std.specs.List.{list_all, list_any}
 use Rattle.std.specs.Map.{lookup}
 use Rattle.std.specs.Str.{bytes_eq}
-use Rattle.wl_tables.specs.declared.way.Way.{Way}
-use Rattle.wl_tables.specs.declared.way.Way.TheVariants.{Request, Event}
+use Rattle.wl_tables.specs.Ways.{own_way}
+use Rattle.wl_text.specs.Enclosed.{is_shown}
 use Rattle.wl_text.specs.Text.{message_of}
 use Rattle.wl_text.specs.declared.text_message.TextMessage.{TextMessage}
 use Rattle.wp_outside.specs.declared.kinds.Side.{Side}
@@ -16,19 +18,10 @@ use Rattle.script_lang.specs.declared.causes.ScriptCause.TheVariants.{Text, Word
 use Rattle.script_lang.specs.declared.steps.StepKind.{StepKind}
 use Rattle.script_lang.specs.declared.steps.StepKind.TheVariants as step
 
--- visible ASCII characters and the space
-abbrev pub is_printable : ℕ → Bool
-is_printable byte = nat_le 32 byte && nat_le byte 126
-
 -- empty lines and comments are skipped, whatever bytes they hold
 abbrev pub is_skipped : List ℕ → Bool
 is_skipped [] = true
 is_skipped (byte ∷ bytes) = byte == 35
-
--- the application sends requests, the compositor events
-abbrev pub way_of : Side → Way
-way_of Near = Request
-way_of Far = Event
 
 -- the peer sends a message, where a text is one
 abbrev pub said : Side → Option TextMessage → Result StepKind ScriptCause
@@ -37,7 +30,9 @@ said peer None = Err Message
 
 -- the text of a message has an `@` in its first field
 abbrev pub message_line : Side → List ℕ → List ℕ → Result StepKind ScriptCause
-message_line peer first text = if list_any (λ byte. byte == 64) first then said peer (message_of (way_of peer) text) else Err Word
+message_line peer first text =
+    if list_any (λ byte. byte == 64) first then said peer (message_of (own_way peer) text)
+    else Err Word
 
 -- behind `app ` or `comp `: a word with its row, or a message
 abbrev pub told : Side → List ℕ → Option Row → Result StepKind ScriptCause
@@ -61,6 +56,7 @@ asked_by word rest =
     else if bytes_eq word (codes "comp") then peer_line Far rest
     else other_line rest (lookup (bytes_eq word) other_rows)
 
--- what a line that isn't skipped asks for, or the first cause for which it asks for nothing
+-- what a line that isn't skipped asks for, or the first cause for which it asks for nothing; a line
+-- is visible ASCII
 unfoldable pub asked : List ℕ → Result StepKind ScriptCause
-asked line = if list_all is_printable line then asked_by (front 32 line) (behind 32 line) else Err Text
+asked line = if list_all is_shown line then asked_by (front 32 line) (behind 32 line) else Err Text

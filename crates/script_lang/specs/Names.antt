@@ -1,5 +1,7 @@
--- The files and pipes that each peer of a script owns, which later lines name by their numbers; the language is this project's own.
-use Rattle.std.specs.Prelude.{ℕ, ◌+◌, ◌-◌, ◌/◌, ℤ, Bool, true, false, ◌&&◌, List, [], Option, Some, None, nat_lt, nat_le, is_some, is_none}
+-- The files and pipes that each peer of a script owns, which later lines name by their numbers; the
+-- language is this project's own.
+use Rattle.std.specs.Prelude.{ℕ, ◌+◌, ◌-◌, ◌/◌, ℤ, Bool, true, false, ◌&&◌, List, [], Option, Some}
+use Rattle.std.specs.Prelude.{None, nat_lt, nat_le, is_some, is_none}
 use Rattle.std.specs.BTreeMap.{is_at, insert_entry}
 use Rattle.std.specs.List.{list_all}
 use Rattle.std.specs.Map.{lookup}
@@ -44,14 +46,17 @@ unless false cause further = Some cause
 
 -- a new file is within the sum of sizes, and its number is new
 abbrev pub file_fault : Owned → ℕ → Option Thing → Option ScriptCause
-file_fault owned size found = unless (nat_le (owned.total + size) most) Number (unless (is_none found) Name None)
+file_fault owned size found =
+    unless (nat_le (owned.total + size) most) Number (unless (is_none found) Name None)
 
 -- a file grows to a greater size, within the sum of sizes, and has at most 64 segments
 abbrev pub can_grow : Owned → ℕ → ℕ → ℕ → Bool
-can_grow owned old segments size = nat_lt old size && nat_lt segments 64 && nat_le (owned.total - old + size) most
+can_grow owned old segments size =
+    nat_lt old size && nat_lt segments 64 && nat_le (owned.total - old + size) most
 
 abbrev pub grow_fault : Owned → ℕ → Option Thing → Option ScriptCause
-grow_fault owned size (Some (File old segments)) = unless (can_grow owned old segments size) Number None
+grow_fault owned size (Some (File old segments)) =
+    unless (can_grow owned old segments size) Number None
 grow_fault owned size _ = Some Name
 
 -- words of eight bytes, up to the file's end
@@ -67,24 +72,29 @@ shut_fault _ = Some Name
 abbrev pub fault_of : Owned → StepKind → Option ScriptCause
 fault_of owned (step.File peer number size) = file_fault owned size (thing_of owned number)
 fault_of owned (step.Grow peer number size) = grow_fault owned size (thing_of owned number)
-fault_of owned (step.Fill peer number first count value) = fill_fault (first + count) (thing_of owned number)
+fault_of owned (step.Fill peer number first count value) =
+    fill_fault (first + count) (thing_of owned number)
 fault_of owned (step.Pipe peer number) = unless (is_none (thing_of owned number)) Name None
 fault_of owned (step.Give peer number) = unless (is_some (thing_of owned number)) Name None
 fault_of owned (step.Shut peer number) = shut_fault (thing_of owned number)
-fault_of owned (step.Say peer message) = unless (list_all (λ number. is_some (thing_of owned number)) message.handles) Name None
+fault_of owned (step.Say peer message) =
+    unless (list_all (λ number. is_some (thing_of owned number)) message.handles) Name None
 fault_of owned _ = None
 
 -- one more file or pipe, or another one in the place of the one with that number
 abbrev pub with_thing : Owned → ℤ → Thing → ℕ → Owned
-with_thing owned number thing total = record { things = insert_entry int_cmp owned.things number thing; total = total }
+with_thing owned number thing total =
+    record { things = insert_entry int_cmp owned.things number thing; total = total }
 
 abbrev pub grown : Owned → ℤ → ℕ → Option Thing → Owned
-grown owned number size (Some (File old segments)) = with_thing owned number (File size (segments + 1)) (owned.total - old + size)
+grown owned number size (Some (File old segments)) =
+    with_thing owned number (File size (segments + 1)) (owned.total - old + size)
 grown owned number size _ = owned
 
 -- what a peer owns behind its line
 abbrev pub after : Owned → StepKind → Owned
-after owned (step.File peer number size) = with_thing owned number (File size 1) (owned.total + size)
+after owned (step.File peer number size) =
+    with_thing owned number (File size 1) (owned.total + size)
 after owned (step.Grow peer number size) = grown owned number size (thing_of owned number)
 after owned (step.Pipe peer number) = with_thing owned number Pipe owned.total
 after owned _ = owned

@@ -1,5 +1,7 @@
--- Numbers as scripts write them, in decimal and without leading zeros; the language is this project's own.
-use Rattle.std.specs.Prelude.{ℕ, ◌+◌, ◌-◌, ◌*◌, ℤ, pos, neg_ℤ, Bool, false, ◌&&◌, List, [], ◌∷◌, if◌then◌else◌, nat_le, ◌==◌, not}
+-- Numbers as scripts write them, in decimal and without leading zeros; the language is this
+-- project's own.
+use Rattle.std.specs.Prelude.{ℕ, ◌+◌, ◌-◌, ◌*◌, ℤ, pos, neg_ℤ, Bool, false, ◌&&◌, List, [], ◌∷◌}
+use Rattle.std.specs.Prelude.{if◌then◌else◌, nat_le, ◌==◌, not}
 use Rattle.std.specs.List.{list_all}
 
 abbrev pub is_decimal_digit : ℕ → Bool
@@ -9,7 +11,8 @@ is_decimal_digit byte = nat_le 48 byte && nat_le byte 57
 abbrev pub is_number : List ℕ → Bool
 is_number [] = false
 is_number (digit ∷ []) = is_decimal_digit digit
-is_number (digit ∷ next ∷ digits) = not (digit == 48) && list_all is_decimal_digit (digit ∷ next ∷ digits)
+is_number (digit ∷ next ∷ digits) =
+    not (digit == 48) && list_all is_decimal_digit (digit ∷ next ∷ digits)
 
 -- the number that digits stand for behind those that stand for n
 abbrev pub value_after : ℕ → List ℕ → ℕ
@@ -41,4 +44,6 @@ abbrev pub is_signed : List ℕ → Bool
 is_signed field = is_number (unsigned field) && not (is_negative field && is_zero (unsigned field))
 
 abbrev pub signed_value : List ℕ → ℤ
-signed_value field = if is_negative field then neg_ℤ (pos (number_value (unsigned field))) else pos (number_value (unsigned field))
+signed_value field =
+    if is_negative field then neg_ℤ (pos (number_value (unsigned field)))
+    else pos (number_value (unsigned field))

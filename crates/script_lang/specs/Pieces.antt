@@ -1,4 +1,5 @@
--- A script cut into lines at its line feeds, and a line cut into fields at its spaces; the language is this project's own.
+-- A script cut into lines at its line feeds, and a line cut into fields at its spaces; the language
+-- is this project's own.
 use Rattle.std.specs.Prelude.{ℕ, List, [], ◌∷◌, Option, Some, None, if◌then◌else◌, ◌==◌}
 
 -- what stands before the first separator

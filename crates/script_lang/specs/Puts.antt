@@ -1,4 +1,5 @@
--- What the lines of a script put on the wires of the application and of the compositor. The language is this project's own; the bytes are those of the Wayland protocol's two streams.
+-- What the lines of a script put on the wires of the application and of the compositor. The
+-- language is this project's own; the bytes are those of the Wayland protocol's two streams.
 use Rattle.std.specs.Prelude.{ℕ, Bool, true, false, if◌then◌else◌, List, [], ◌∷◌, ◌++◌}
 use Rattle.wp_outside.specs.declared.kinds.Side.{Side}
 use Rattle.wp_outside.specs.declared.kinds.Side.TheVariants.{Near, Far}

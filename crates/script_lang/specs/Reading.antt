@@ -1,4 +1,5 @@
--- What reading a part of a script answers, beside want of memory, which is free; the language is this project's own.
+-- What reading a part of a script answers, beside want of memory, which is free; the language is
+-- this project's own.
 use Rattle.std.specs.Prelude.{◌≡◌, ℕ, List, [], ◌∷◌, ◌++◌, Option, Some, None, Result, Ok, Err}
 use Rattle.std.specs.Result.{IsOk}
 use Rattle.script_lang.specs.declared.causes.ScriptCause.{ScriptCause}
@@ -22,7 +23,9 @@ steps_at line (Ok None) = []
 steps_at line (Err cause) = []
 
 -- a line was added, or is none
-abbrev pub Added : Result (Unit {0}) ScriptRead → List Step → List Step → ℕ → Result (Option StepKind) ScriptCause → Type 0
+abbrev pub Added :
+    Result (Unit {0}) ScriptRead → List Step → List Step → ℕ → Result (Option StepKind) ScriptCause
+    → Type 0
 Added (Ok done) old new line told = IsOk told × (new ≡ old ++ steps_at line told)
 Added (Err (read.Fault at cause)) old new line told = (at ≡ line) × (told ≡ Err cause)
 Added (Err read.Lines) old new line told = ⊥

@@ -1,9 +1,11 @@
 -- The lines of a script, each with its fields; the language is this project's own.
-use Rattle.std.specs.Prelude.{ℕ, ◌&&◌, List, [], ◌∷◌, Option, Some, None, Result, Ok, Err, if◌then◌else◌, codes}
+use Rattle.std.specs.Prelude.{ℕ, ◌&&◌, List, [], ◌∷◌, Option, Some, None, Result, Ok, Err}
+use Rattle.std.specs.Prelude.{if◌then◌else◌, codes}
 use Rattle.wp_outside.specs.declared.kinds.Direction.TheVariants.{Up, Down}
 use Rattle.wp_outside.specs.declared.kinds.Side.{Side}
 use Rattle.script_lang.specs.Fields.{one_of, two_of, three_of, four_of}
-use Rattle.script_lang.specs.Kinds.{Kind, number, count, place, word, size, received, own, bytes, byte, who, direction}
+use Rattle.script_lang.specs.Kinds.{Kind, number, count, place, word, size, received, own, bytes}
+use Rattle.script_lang.specs.Kinds.{byte, who, direction}
 use Rattle.script_lang.specs.declared.causes.ScriptCause.{ScriptCause}
 use Rattle.script_lang.specs.declared.causes.ScriptCause.TheVariants.{Form, Number}
 use Rattle.script_lang.specs.declared.steps.StepKind.{StepKind}
@@ -18,7 +20,8 @@ abbrev pub read : {A : Type 0} → Kind A → List ℕ → Result A ScriptCause
 read kind field = if kind.form field then ranged kind field else Err Form
 
 -- two values, or the first cause for which there are none
-abbrev pub both : {A B : Type 0} → Result A ScriptCause → Result B ScriptCause → Result (A × B) ScriptCause
+abbrev pub both :
+    {A B : Type 0} → Result A ScriptCause → Result B ScriptCause → Result (A × B) ScriptCause
 both (Ok a) (Ok b) = Ok (a, b)
 both (Ok a) (Err cause) = Err cause
 both (Err cause) b = Err cause
@@ -32,8 +35,10 @@ abbrev pub only : {A : Type 0} → Kind A → List (List ℕ) → Result A Scrip
 only kind given = only_of kind (one_of given)
 
 -- the values of the two fields that there are
-abbrev pub pair_of : {A B : Type 0} → Kind A → Kind B → Option (List ℕ × List ℕ) → Result (A × B) ScriptCause
-pair_of first second (Some (a, b)) = if first.form a && second.form b then both (ranged first a) (ranged second b) else Err Form
+abbrev pub pair_of :
+    {A B : Type 0} → Kind A → Kind B → Option (List ℕ × List ℕ) → Result (A × B) ScriptCause
+pair_of first second (Some (a, b)) =
+    if first.form a && second.form b then both (ranged first a) (ranged second b) else Err Form
 pair_of first second None = Err Form
 
 abbrev pub pair : {A B : Type 0} → Kind A → Kind B → List (List ℕ) → Result (A × B) ScriptCause
@@ -58,39 +63,51 @@ one kind make given = made make (only kind given)
 abbrev pub two : {A B : Type 0} → Kind A → Kind B → (A → B → StepKind) → Row
 two first second make given = made (λ values. make values.0 values.1) (pair first second given)
 
-abbrev pub three_by : {A B C : Type 0} → Kind A → Kind B → Kind C → (A → B → C → StepKind) → Option (List ℕ × List ℕ × List ℕ) → Result StepKind ScriptCause
+abbrev pub three_by :
+    {A B C : Type 0} → Kind A → Kind B → Kind C → (A → B → C → StepKind)
+    → Option (List ℕ × List ℕ × List ℕ) → Result StepKind ScriptCause
 three_by first second third make (Some (a, b, c)) =
     if first.form a && second.form b && third.form c
-    then made (λ values. make values.0 values.1.0 values.1.1) (both (ranged first a) (both (ranged second b) (ranged third c)))
+    then made (λ values. make values.0 values.1.0 values.1.1)
+    (both (ranged first a) (both (ranged second b) (ranged third c)))
     else Err Form
 three_by first second third make None = Err Form
 
 abbrev pub three : {A B C : Type 0} → Kind A → Kind B → Kind C → (A → B → C → StepKind) → Row
 three first second third make given = three_by first second third make (three_of given)
 
-abbrev pub four_by : {A B C D : Type 0} → Kind A → Kind B → Kind C → Kind D → (A → B → C → D → StepKind) → Option (List ℕ × List ℕ × List ℕ × List ℕ) → Result StepKind ScriptCause
+abbrev pub four_by :
+    {A B C D : Type 0} → Kind A → Kind B → Kind C → Kind D → (A → B → C → D → StepKind)
+    → Option (List ℕ × List ℕ × List ℕ × List ℕ) → Result StepKind ScriptCause
 four_by first second third fourth make (Some (a, b, c, d)) =
     if first.form a && second.form b && third.form c && fourth.form d
-    then made (λ values. make values.0 values.1.0 values.1.1.0 values.1.1.1) (both (ranged first a) (both (ranged second b) (both (ranged third c) (ranged fourth d))))
+    then made (λ values. make values.0 values.1.0 values.1.1.0 values.1.1.1)
+    (both (ranged first a) (both (ranged second b) (both (ranged third c) (ranged fourth d))))
     else Err Form
 four_by first second third fourth make None = Err Form
 
-abbrev pub four : {A B C D : Type 0} → Kind A → Kind B → Kind C → Kind D → (A → B → C → D → StepKind) → Row
+abbrev pub four :
+    {A B C D : Type 0} → Kind A → Kind B → Kind C → Kind D → (A → B → C → D → StepKind) → Row
 four first second third fourth make given = four_by first second third fourth make (four_of given)
 
--- behind `app` or `comp`: the word, and the fields behind it
-abbrev pub peer_rows : Side → List (List ℕ × Row)
-peer_rows peer =
-    (codes "hex", one bytes (step.Hex peer)) ∷
+-- behind `app` or `comp`, lines of the peer's own files, pipes and handles: the word, and the
+-- fields behind it
+abbrev pub own_rows : Side → List (List ℕ × Row)
+own_rows peer =
     (codes "file", two (own peer) size (step.File peer)) ∷
     (codes "grow", two (own peer) size (step.Grow peer)) ∷
     (codes "fill", four (own peer) place count word (step.Fill peer)) ∷
     (codes "pipe", one (own peer) (step.Pipe peer)) ∷
     (codes "give", one (own peer) (step.Give peer)) ∷
-    (codes "put", two received bytes (step.Put peer)) ∷
     (codes "end", one received (step.End peer)) ∷
     (codes "shut", one (own peer) (step.Shut peer)) ∷
     (codes "await", one (number 0 1000000) (step.Await peer)) ∷ []
+
+-- all lines behind `app` or `comp`
+abbrev pub peer_rows : Side → List (List ℕ × Row)
+peer_rows peer =
+    (codes "hex", one bytes (step.Hex peer)) ∷
+    (codes "put", two received bytes (step.Put peer)) ∷ own_rows peer
 
 -- lines of connections and of the link: the word, and the fields behind it
 abbrev pub link_rows : List (List ℕ × Row)

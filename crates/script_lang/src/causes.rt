@@ -1,4 +1,9 @@
-// Why a script is not read.
+//! Why a script is not read.
+
+ghost use Rattle.std.specs.Prelude.{◌≡◌};
+ghost use Rattle.script_lang.specs.declared.causes.ScriptRead.TheVariants.{Memory};
+
+use std::alloc::AllocError;
 
 /// Why a line is no line of a script, in the order in which it is tested.
 #[derive(Clone, Copy, Debug, PartialEq, Eq)]
@@ -28,4 +33,12 @@ pub enum ScriptRead {
     Lines,
     /// Memory ran out.
     Memory,
+}
+
+impl From<AllocError> for ScriptRead {
+    ghost from_gives = { λ _ fault. fault ≡ Memory };
+
+    fn from(_: AllocError) -> ScriptRead {
+        ScriptRead::Memory
+    }
 }

@@ -1,4 +1,4 @@
-// Why a line is not read.
+//! Why a line is not read.
 
 ghost use Rattle.std.specs.Prelude.{◌≡◌};
 ghost use Rattle.script_lang.specs.declared.faults.LineFault.TheVariants.{Cause, Memory};

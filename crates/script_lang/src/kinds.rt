@@ -1,17 +1,19 @@
-// The kinds of field, once they have their form.
+//! The kinds of field, once they have their form.
 
-ghost use Rattle.std.specs.Prelude.{◌≡◌, true, IfOk, ◌^◌, ◌≤◌, ◌<◌};
-ghost use Rattle.std.specs.List.{list_all};
-ghost use Rattle.script_lang.specs.Kinds.{number, word, size, received, own, bytes, byte, who, direction, is_lower_digit, is_hex, decoded};
-ghost use Rattle.script_lang.specs.Reading.{Read};
+ghost use Rattle.std.specs.Prelude.{◌≡◌, IfOk};
+ghost use Rattle.script_lang.specs.Kinds.{number, word, size, received, own, bytes, byte, who};
+ghost use Rattle.script_lang.specs.Kinds.{direction, formed};
 ghost use Rattle.script_lang.specs.Rows.{ranged, read};
 
 use crate::causes::ScriptCause;
-use crate::faults::LineFault;
+use crate::digits::{decode, decode_into};
 use crate::numbers::{is_negative, number_value, unsigned};
 use std::alloc::{AllocError, Global};
 use wl_wire::Bytes;
 use wp_outside::{Direction, Side};
+
+/// The most digits that a field of bytes may have.
+const MOST_DIGITS: usize = 131_072;
 
 /// A number from the one to the other.
 pub fn number(field: &[u8], low: u32, high: u32) -> Result<u32, ScriptCause>
@@ -64,62 +66,28 @@ pub fn own(peer: Side, field: &[u8]) -> Result<i32, ScriptCause>
     received(field)
 }
 
-/// Whether a field is an even count of digits, 0 to 9 and a to f.
-fn is_hex(field: &[u8]) -> bool
-    ensures { result ≡ is_hex field.now }
-{
-    field.len() % 2 == 0 && all_lower(field)
-}
-
-fn all_lower(digits: &[u8]) -> bool
-    ensures { result ≡ list_all is_lower_digit digits.now }
-{
-    digits.iter().all(|digit| is_lower_digit(*digit))
-}
-
-fn is_lower_digit(byte: u8) -> bool
-    ensures { result ≡ is_lower_digit byte }
-{
-    matches!(byte, b'0'..=b'9' | b'a'..=b'f')
-}
-
-/// Whether a field is an even count of 2 to 131,072 digits.
-pub fn are_bytes(field: &[u8]) -> bool
-    ensures { result ≡ bytes.form field.now }
-{
-    field.len() >= 2 && field.len() <= 131_072 && is_hex(field)
-}
-
-/// The bytes of an even count of digits.
+/// The bytes of a field of 2 to 131,072 digits, or None where it is none.
 ///
 /// # Errors
 /// Only where memory runs out.
-pub fn bytes(alloc: Global, field: &[u8]) -> Result<Bytes, AllocError>
-    requires { is_hex field.now ≡ true }
-    ensures { IfOk result (λ bytes. bytes ≡ decoded field.now) }
+pub fn bytes(alloc: Global, field: &[u8]) -> Result<Option<Bytes>, AllocError>
+    ensures { IfOk result (λ it. it ≡ formed bytes field.now) }
 {
-    match hex::decode(alloc, field) {
-        Ok(bytes) => Ok(Bytes::from_vec(bytes)),
-        Err(_) => Err(AllocError),
+    if field.len() < 2 || field.len() > MOST_DIGITS {
+        return Ok(None);
     }
+    decode(alloc, field)
 }
 
-/// Whether a field is two digits.
-pub fn is_byte(field: &[u8]) -> bool
-    ensures { result ≡ byte.form field.now }
+/// The byte of two digits, or None where a field is none.
+pub fn byte(field: &[u8]) -> Option<u8>
+    ensures { result ≡ formed byte field.now }
 {
-    field.len() == 2 && is_hex(field)
-}
-
-/// The byte of two digits.
-pub fn byte(field: &[u8]) -> u8
-    requires { byte.form field.now ≡ true }
-    ensures { result ≡ byte.value field.now }
-{
-    let mut bytes = [0u8; 1];
-    match hex::decode_to_slice(field, &mut bytes) {
-        Ok(()) => bytes[0],
-        Err(_) => unreachable!(),
+    let mut bytes = [0u8];
+    if field.len() == 2 && decode_into(field, &mut bytes) {
+        Some(bytes[0])
+    } else {
+        None
     }
 }
 

@@ -1,26 +1,46 @@
-// What holds of every script.
+//! Laws of scripts: each function does nothing, and its clause is the law.
 
-ghost use Rattle.script_lang.specs.Laws.{LinesRise, FaultIsALine, TooManyLines, OnlyTested, StopEnds};
+ghost use Rattle.script_lang.specs.Laws.{OneStepEach, FirstFault, TooManyLines, AskedIsVisible};
+ghost use Rattle.script_lang.specs.Laws.{OnlyTested, StopEnds};
 
-/// Each step has a later line than those before it, and one of the script's lines.
-pub fn lines_rise()
-    ensures { LinesRise }
-{}
+use wl_text::text_is_visible;
 
-/// A line that is refused is one of the script's.
-pub fn fault_is_a_line()
-    ensures { FaultIsALine }
-{}
+/// Each line that isn't skipped has its one step, in order, and no other step is there.
+pub fn one_step_each()
+    ensures { OneStepEach }
+{
+    text_is_visible();
+}
+
+/// A script is refused for the first line that is none: the lines before it are a script, and with
+/// it they are none.
+pub fn first_fault()
+    ensures { FirstFault }
+{
+    text_is_visible();
+}
 
 /// A script has too many lines exactly above 200,000, whatever they hold.
 pub fn too_many_lines()
     ensures { TooManyLines }
-{}
+{
+    text_is_visible();
+}
 
-/// Reading never answers that a line isn't built, and no script is refused for want of memory alone.
+/// A line that asks for something is visible ASCII.
+pub fn asked_is_visible()
+    ensures { AskedIsVisible }
+{
+    text_is_visible();
+}
+
+/// Reading never answers that a line isn't built, and no script is refused for want of memory
+/// alone.
 pub fn only_tested()
     ensures { OnlyTested }
-{}
+{
+    text_is_visible();
+}
 
 /// What stands behind a `stop` puts nothing on the wires.
 pub fn stop_ends()

@@ -2,6 +2,7 @@
 #![tactic(auto)]
 
 mod causes;
+mod digits;
 mod faults;
 mod kinds;
 mod laws;
@@ -10,22 +11,23 @@ mod link_lines;
 mod names;
 mod numbers;
 mod other_lines;
+mod own_lines;
 mod peer_lines;
 mod peers;
 mod pieces;
 mod reading;
 mod rows;
 mod script;
-mod step_list;
 mod steps;
 mod things;
 
 pub use causes::{ScriptCause, ScriptRead};
-pub use laws::{fault_is_a_line, lines_rise, only_tested, stop_ends, too_many_lines};
+pub use laws::{
+    asked_is_visible, first_fault, one_step_each, only_tested, stop_ends, too_many_lines,
+};
 pub use reading::read_script;
 pub use script::Script;
-pub use step_list::StepList;
-pub use steps::{Step, StepKind};
+pub use steps::{Step, StepKind, StepList};
 
 #[cfg(test)]
 mod tests;

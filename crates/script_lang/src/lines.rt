@@ -1,9 +1,11 @@
-// One line of a script.
+//! One line of a script.
 
-ghost use Rattle.std.specs.Prelude.{◌≡◌};
+ghost use Rattle.std.specs.Prelude.{◌≡◌, if◌then◌else◌};
 ghost use Rattle.std.specs.List.{list_all};
 ghost use Rattle.std.specs.Option.{option_copied};
-ghost use Rattle.script_lang.specs.Lines.{is_printable, is_skipped, asked, asked_by, peer_line};
+ghost use Rattle.script_lang.specs.Lines.{is_skipped, asked, asked_by, peer_line};
+ghost use Rattle.wl_text.specs.Enclosed.{is_shown};
+ghost use Rattle.script_lang.specs.declared.causes.ScriptCause.TheVariants.{Text};
 ghost use Rattle.script_lang.specs.Reading.{Read};
 
 use crate::causes::ScriptCause;
@@ -13,18 +15,40 @@ use crate::peer_lines::peer_line;
 use crate::pieces::cut_at;
 use crate::steps::StepKind;
 use std::alloc::Global;
+use wl_text::text_is_visible;
 use wp_outside::Side;
 
 /// What a line that isn't skipped asks for, whatever stood before it.
-#[tactic(auto, unfolding(crate::specs::Lines::asked))]
 pub fn asked(alloc: Global, line: &[u8]) -> Result<StepKind, LineFault>
     ensures { Read result (asked line.now) }
 {
-    if !is_text(line) {
-        return Err(LineFault::Cause(ScriptCause::Text));
-    }
+    // All lines that ask for something are visible ASCII, so the bytes of the others alone are
+    // tested.
+    text_is_visible();
     let (word, rest) = cut_at(line, b' ');
-    asked_by(alloc, word, rest)
+    match asked_by(alloc, word, rest) {
+        Ok(what) => Ok(what),
+        Err(LineFault::Cause(cause)) => Err(LineFault::Cause(first_cause(line, cause))),
+        Err(LineFault::Memory) => Err(LineFault::Memory),
+    }
+}
+
+/// The first cause for which a line is none: its bytes, or else this one.
+fn first_cause(line: &[u8], other: ScriptCause) -> ScriptCause
+    ensures { result ≡ (if list_all is_shown line.now then other else Text) }
+{
+    if is_text(line) {
+        other
+    } else {
+        ScriptCause::Text
+    }
+}
+
+/// Whether all bytes are visible ASCII characters or spaces.
+fn is_text(line: &[u8]) -> bool
+    ensures { result ≡ list_all is_shown line.now }
+{
+    line.iter().all(|byte| *byte >= b' ' && *byte <= b'~')
 }
 
 /// Whether a line is empty or a comment.
@@ -35,13 +59,6 @@ pub fn is_skipped(line: &[u8]) -> bool
         [] => true,
         [first, ..] => *first == b'#',
     }
-}
-
-/// Whether all bytes are visible ASCII characters or spaces.
-fn is_text(line: &[u8]) -> bool
-    ensures { result ≡ list_all is_printable line.now }
-{
-    line.iter().all(|byte| *byte >= b' ' && *byte <= b'~')
 }
 
 /// What a first word and what stands behind its space ask for.

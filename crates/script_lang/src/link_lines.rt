@@ -1,4 +1,4 @@
-// Lines of connections and of the link.
+//! Lines of connections and of the link.
 
 ghost use Rattle.std.specs.Prelude.{◌≡◌};
 ghost use Rattle.std.specs.Map.{lookup};
@@ -13,14 +13,15 @@ ghost use Rattle.script_lang.specs.declared.steps.StepKind.TheVariants as step;
 use crate::causes::ScriptCause;
 use crate::numbers::is_number;
 use crate::pieces::three_fields;
-use crate::rows::MOST;
+use crate::rows::MOST_COUNT;
 use crate::steps::StepKind;
 use crate::{kinds, rows};
 use wp_outside::Direction;
 
 /// What a line of a connection or of the link asks for.
 pub fn link_line(word: &[u8], fields: Option<&[u8]>) -> Result<StepKind, ScriptCause>
-    ensures { result ≡ other_line (option_copied fields.entry) (lookup (bytes_eq word.now) link_rows) }
+    ensures { result ≡ other_line (option_copied fields.entry)
+        (lookup (bytes_eq word.now) link_rows) }
 {
     if word == b"connect".as_slice() {
         return rows::nothing(fields, StepKind::Connect);
@@ -56,22 +57,24 @@ pub fn link_line(word: &[u8], fields: Option<&[u8]>) -> Result<StepKind, ScriptC
 fn both(dir: Direction, fields: Option<&[u8]>) -> Result<StepKind, ScriptCause>
     ensures { result ≡ one count (step.Both dir) (fields_behind (option_copied fields.entry)) }
 {
-    let bytes = rows::number(fields, 1, MOST)?;
+    let bytes = rows::number(fields, 1, MOST_COUNT)?;
     Ok(StepKind::Both { dir, bytes })
 }
 
 /// A place among the bytes that wait in the link, and the byte that shall stand there.
 fn spoil(fields: Option<&[u8]>) -> Result<StepKind, ScriptCause>
-    ensures { result ≡ three direction place byte step.Spoil (fields_behind (option_copied fields.entry)) }
+    ensures { result ≡ three direction place byte step.Spoil
+        (fields_behind (option_copied fields.entry)) }
 {
     match three_fields(fields) {
-        Some((dir, offset, digits)) if is_number(offset) && kinds::is_byte(digits) => {
-            Ok(StepKind::Spoil {
+        Some((dir, offset, digits)) if is_number(offset) => match kinds::byte(digits) {
+            Some(byte) => Ok(StepKind::Spoil {
                 dir: kinds::direction(dir)?,
-                offset: kinds::number(offset, 0, MOST)?,
-                byte: kinds::byte(digits),
-            })
-        }
+                offset: kinds::number(offset, 0, MOST_COUNT)?,
+                byte,
+            }),
+            None => Err(ScriptCause::Form),
+        },
         _ => Err(ScriptCause::Form),
     }
 }

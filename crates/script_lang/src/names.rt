@@ -1,8 +1,10 @@
-// What each peer owns.
+//! What each peer owns.
 
 ghost use Rattle.std.specs.Prelude.{◌≡◌, ◌≤◌, None, OnOk, is_some};
 ghost use Rattle.std.specs.List.{list_all};
-ghost use Rattle.script_lang.specs.Names.{nothing, thing_of, fault_of, after, file_fault, grow_fault, fill_fault, shut_fault, can_grow, grown, with_thing, unless};
+ghost use Rattle.script_lang.specs.Names.{nothing, thing_of, fault_of, after, file_fault};
+ghost use Rattle.script_lang.specs.Names.{grow_fault, fill_fault, shut_fault, can_grow, grown};
+ghost use Rattle.script_lang.specs.Names.{with_thing, unless};
 ghost use Rattle.script_lang.specs.declared.causes.ScriptCause.TheVariants.{Name};
 
 use crate::causes::ScriptCause;
@@ -13,7 +15,7 @@ use std::collections::BTreeMap;
 use std::marker::Model;
 
 /// The greatest sum of the sizes of a peer's files, in bytes.
-const MOST: u32 = 268_435_456;
+const MOST_OWNED: u32 = 268_435_456;
 
 /// The files and pipes of one peer, by their numbers, and the sum of the sizes of its files.
 #[derive(Drop)]
@@ -76,7 +78,7 @@ impl PeerNames {
     fn file_fault(&self, size: u32, found: Option<Thing>) -> Option<ScriptCause>
         ensures { result ≡ file_fault self.now size found }
     {
-        if u64::from(self.total) + u64::from(size) > u64::from(MOST) {
+        if u64::from(self.total) + u64::from(size) > u64::from(MOST_OWNED) {
             return Some(ScriptCause::Number);
         }
         unless(found.is_none())
@@ -107,7 +109,7 @@ impl PeerNames {
         ensures { result ≡ can_grow self.now old segments size }
     {
         let others = u64::from(self.total.saturating_sub(old));
-        old < size && segments < 64 && others + u64::from(size) <= u64::from(MOST)
+        old < size && segments < 64 && others + u64::from(size) <= u64::from(MOST_OWNED)
     }
 
     /// Whether all numbers are the peer's own.
@@ -171,13 +173,9 @@ impl PeerNames {
         requires { total ≤ 268435456 }
         ensures { OnOk result (self.new ≡ with_thing self.old number thing total) }
     {
-        match self.things.insert(number, thing) {
-            Ok(_) => {
-                self.total = total;
-                Ok(())
-            }
-            Err(_) => Err(AllocError),
-        }
+        let _ = self.things.insert(number, thing)?;
+        self.total = total;
+        Ok(())
     }
 }
 

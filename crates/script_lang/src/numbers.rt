@@ -1,9 +1,10 @@
-// Decimal numbers without leading zeros.
+//! Decimal numbers without leading zeros.
 
 ghost use Rattle.std.specs.Prelude.{◌≡◌, ◌^◌, ◌<◌};
 ghost use Rattle.std.specs.List.{list_all};
 ghost use Rattle.std.specs.Option.{SomeIff};
-ghost use Rattle.script_lang.specs.Numbers.{is_decimal_digit, is_number, number_value, is_negative, is_zero, unsigned, is_signed};
+ghost use Rattle.script_lang.specs.Numbers.{is_decimal_digit, is_number, number_value, is_negative};
+ghost use Rattle.script_lang.specs.Numbers.{is_zero, unsigned, is_signed};
 
 fn is_decimal_digit(byte: u8) -> bool
     ensures { result ≡ is_decimal_digit byte }

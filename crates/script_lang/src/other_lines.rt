@@ -1,4 +1,4 @@
-// Lines that begin with no peer.
+//! Lines that begin with no peer.
 
 ghost use Rattle.std.specs.Prelude.{◌≡◌};
 ghost use Rattle.std.specs.Map.{lookup};
@@ -10,19 +10,20 @@ ghost use Rattle.script_lang.specs.Rows.{other_rows};
 use crate::causes::ScriptCause;
 use crate::link_lines::link_line;
 use crate::rows;
-use crate::rows::MOST;
+use crate::rows::MOST_COUNT;
 use crate::steps::StepKind;
 
 /// What a line without a peer in front asks for, by its first word and what stands behind.
 pub fn other_line(word: &[u8], fields: Option<&[u8]>) -> Result<StepKind, ScriptCause>
-    ensures { result ≡ other_line (option_copied fields.entry) (lookup (bytes_eq word.now) other_rows) }
+    ensures { result ≡ other_line (option_copied fields.entry)
+        (lookup (bytes_eq word.now) other_rows) }
 {
     if word == b"take".as_slice() {
         let (peer, bytes) = rows::who_and_count(fields)?;
         return Ok(StepKind::Take { peer, bytes });
     }
     if word == b"load".as_slice() {
-        let words = rows::number(fields, 1, MOST)?;
+        let words = rows::number(fields, 1, MOST_COUNT)?;
         return Ok(StepKind::Load { words });
     }
     if word == b"close".as_slice() {
@@ -33,7 +34,7 @@ pub fn other_line(word: &[u8], fields: Option<&[u8]>) -> Result<StepKind, Script
         return rows::nothing(fields, StepKind::Settle);
     }
     if word == b"drain".as_slice() {
-        let bytes = rows::number(fields, 1, MOST)?;
+        let bytes = rows::number(fields, 1, MOST_COUNT)?;
         return Ok(StepKind::Drain { bytes });
     }
     if word == b"stop".as_slice() {

@@ -1,4 +1,4 @@
-// What both peers own.
+//! What both peers own.
 
 ghost use Rattle.std.specs.Prelude.{◌≡◌, None, OnOk};
 ghost use Rattle.script_lang.specs.Names.{no_names, naming, fault_by, after_by};

@@ -1,7 +1,8 @@
-// Reading a script.
+//! Reading a script.
 
 ghost use Rattle.std.specs.Prelude.{◌≡◌, ◌≤◌, length, OnOk};
-ghost use Rattle.script_lang.specs.Grammar.{ReadsScript, steps_of, steps_from, line_of, names_after};
+ghost use Rattle.script_lang.specs.Grammar.{ReadsScript, steps_of, steps_from, line_of};
+ghost use Rattle.script_lang.specs.Grammar.{names_after};
 ghost use Rattle.script_lang.specs.Names.{no_names};
 ghost use Rattle.script_lang.specs.Pieces.{lines};
 ghost use Rattle.script_lang.specs.Reading.{Read, Added};
@@ -12,8 +13,7 @@ use crate::lines::{asked, is_skipped};
 use crate::peers::Peers;
 use crate::pieces::{count_lines, next_line};
 use crate::script::Script;
-use crate::step_list::StepList;
-use crate::steps::{Step, StepKind};
+use crate::steps::{Step, StepKind, StepList};
 use std::alloc::Global;
 
 /// The most lines that a script may have.
@@ -22,8 +22,8 @@ const MOST_LINES: usize = 200_000;
 /// Reads a script.
 ///
 /// # Errors
-/// `Lines` exactly where there are more than 200,000 lines; else `Fault` with the first line that is no line of a script,
-/// and why; `Memory` where memory runs out. `NotBuilt` is never the cause.
+/// `Lines` exactly where there are more than 200,000 lines; else `Fault` with the first line that
+/// is no line of a script, and why; `Memory` where memory runs out. `NotBuilt` is never the cause.
 #[tactic(auto, unfolding(crate::specs::Grammar::steps_of))]
 pub fn read_script(alloc: Global, bytes: &[u8]) -> Result<Script, ScriptRead>
     ensures exact { ReadsScript result (steps_of bytes.now) }
@@ -45,10 +45,7 @@ fn read_lines(alloc: Global, text: &[u8]) -> Result<Script, ScriptRead>
     let mut rest = text;
     while !rest.is_empty() {
         let (first, others) = next_line(rest);
-        match add_line(alloc, &mut peers, &mut steps, line, first) {
-            Ok(()) => {}
-            Err(fault) => return Err(fault),
-        }
+        add_line(alloc, &mut peers, &mut steps, line, first)?;
         line += 1;
         rest = others;
     }
@@ -68,16 +65,14 @@ fn add_line(
 {
     match read_line(alloc, peers, text) {
         Ok(None) => Ok(()),
-        Ok(Some(what)) => match steps.push(Step { line, what }) {
-            Ok(()) => Ok(()),
-            Err(_) => Err(ScriptRead::Memory),
-        },
+        Ok(Some(what)) => Ok(steps.push(Step { line, what })?),
         Err(LineFault::Cause(cause)) => Err(ScriptRead::Fault { line, cause }),
         Err(LineFault::Memory) => Err(ScriptRead::Memory),
     }
 }
 
-/// Reads a line behind lines that leave these names, and keeps what it makes. A line that is skipped asks for nothing.
+/// Reads a line behind lines that leave these names, and keeps what it makes. A line that is
+/// skipped asks for nothing.
 fn read_line(alloc: Global, peers: &mut Peers, text: &[u8]) -> Result<Option<StepKind>, LineFault>
     ensures step { Read result (line_of peers.old text.now) }
     ensures names { OnOk result (peers.new ≡ names_after peers.old (line_of peers.old text.now)) }

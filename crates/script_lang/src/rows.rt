@@ -1,11 +1,12 @@
-// The fields of a line, by their kinds.
+//! The fields of a line, by their kinds.
 
 ghost use Rattle.std.specs.Prelude.{◌≡◌};
 ghost use Rattle.std.specs.Option.{option_copied};
-ghost use Rattle.script_lang.specs.Kinds.{number, size, received, own, bytes, who, direction, place, count, word, byte};
+ghost use Rattle.script_lang.specs.Kinds.{number, size, received, own, bytes, who, direction};
+ghost use Rattle.script_lang.specs.Kinds.{place, count, word, byte};
 ghost use Rattle.script_lang.specs.Pieces.{fields_behind};
 ghost use Rattle.script_lang.specs.Reading.{Read};
-ghost use Rattle.script_lang.specs.Rows.{only, pair, none, three, four};
+ghost use Rattle.script_lang.specs.Rows.{only, both, pair, none};
 
 use crate::causes::ScriptCause;
 use crate::faults::LineFault;
@@ -18,7 +19,17 @@ use wl_wire::Bytes;
 use wp_outside::{Direction, Side};
 
 /// The greatest count, of bytes mostly.
-pub const MOST: u32 = 1_000_000_000;
+pub const MOST_COUNT: u32 = 1_000_000_000;
+
+/// Two values, or the first cause for which there are none.
+pub fn both<A: Drop, B: Drop>(
+    first: Result<A, ScriptCause>,
+    second: Result<B, ScriptCause>,
+) -> Result<(A, B), ScriptCause>
+    ensures { result ≡ both first second }
+{
+    Ok((first?, second?))
+}
 
 /// What a line without fields asks for.
 #[tactic(auto, using(crate::proofs::PieceLemmas::fields_cut))]
@@ -57,7 +68,7 @@ pub fn own_and_size(peer: Side, fields: Option<&[u8]>) -> Result<(i32, u32), Scr
 {
     match two_fields(fields) {
         Some((number, size)) if is_signed(number) && is_number(size) => {
-            Ok((kinds::own(peer, number)?, kinds::size(size)?))
+            both(kinds::own(peer, number), kinds::size(size))
         }
         _ => Err(ScriptCause::Form),
     }
@@ -78,8 +89,11 @@ pub fn bytes(alloc: Global, fields: Option<&[u8]>) -> Result<Bytes, LineFault>
     ensures { Read result (only bytes (fields_behind (option_copied fields.entry))) }
 {
     match one_field(fields) {
-        Some(field) if kinds::are_bytes(field) => Ok(kinds::bytes(alloc, field)?),
-        _ => Err(LineFault::Cause(ScriptCause::Form)),
+        Some(field) => match kinds::bytes(alloc, field)? {
+            Some(bytes) => Ok(bytes),
+            None => Err(LineFault::Cause(ScriptCause::Form)),
+        },
+        None => Err(LineFault::Cause(ScriptCause::Form)),
     }
 }
 
@@ -88,10 +102,10 @@ pub fn received_and_bytes(alloc: Global, fields: Option<&[u8]>) -> Result<(i32, 
     ensures { Read result (pair received bytes (fields_behind (option_copied fields.entry))) }
 {
     match two_fields(fields) {
-        Some((pipe, digits)) if is_signed(pipe) && kinds::are_bytes(digits) => {
-            let pipe = kinds::received(pipe)?;
-            Ok((pipe, kinds::bytes(alloc, digits)?))
-        }
+        Some((pipe, digits)) if is_signed(pipe) => match kinds::bytes(alloc, digits)? {
+            Some(bytes) => Ok((kinds::received(pipe)?, bytes)),
+            None => Err(LineFault::Cause(ScriptCause::Form)),
+        },
         _ => Err(LineFault::Cause(ScriptCause::Form)),
     }
 }
@@ -112,7 +126,7 @@ pub fn who_and_count(fields: Option<&[u8]>) -> Result<(Side, u32), ScriptCause>
 {
     match two_fields(fields) {
         Some((peer, count)) if is_number(count) => {
-            Ok((kinds::who(peer)?, kinds::number(count, 1, MOST)?))
+            both(kinds::who(peer), kinds::number(count, 1, MOST_COUNT))
         }
         _ => Err(ScriptCause::Form),
     }
@@ -123,11 +137,12 @@ pub fn direction_and_number(
     fields: Option<&[u8]>,
     low: u32,
 ) -> Result<(Direction, u32), ScriptCause>
-    ensures { result ≡ pair direction (number low 1000000000) (fields_behind (option_copied fields.entry)) }
+    ensures { result ≡ pair direction (number low 1000000000)
+        (fields_behind (option_copied fields.entry)) }
 {
     match two_fields(fields) {
         Some((dir, bytes)) if is_number(bytes) => {
-            Ok((kinds::direction(dir)?, kinds::number(bytes, low, MOST)?))
+            both(kinds::direction(dir), kinds::number(bytes, low, MOST_COUNT))
         }
         _ => Err(ScriptCause::Form),
     }

@@ -1,9 +1,9 @@
-// A whole script.
+//! A whole script.
 
-use crate::step_list::StepList;
+use crate::steps::StepList;
 
 /// A script that was read.
-#[derive(Debug, Drop)]
+#[derive(Drop)]
 pub struct Script {
     /// One step for each line that isn't skipped, in order.
     pub steps: StepList,

@@ -1,11 +1,12 @@
-// What the lines of a script ask for.
+//! What the lines of a script ask for.
 
+use plain_lists::PlainList;
 use wl_text::TextMessage;
 use wl_wire::Bytes;
 use wp_outside::{Direction, Side};
 
 /// One line of a script.
-#[derive(Debug, Drop, PartialEq, Eq)]
+#[derive(Drop, PartialEq, Eq)]
 pub struct Step {
     /// The line's number, counted from 1; lines that are skipped count too.
     pub line: u32,
@@ -13,8 +14,11 @@ pub struct Step {
     pub what: StepKind,
 }
 
+/// The steps of a script, in the order of its lines.
+pub type StepList = PlainList<Step>;
+
 /// What a line asks for. The peer is `Near` for the application and `Far` for the compositor.
-#[derive(Debug, Drop, PartialEq, Eq)]
+#[derive(Drop, PartialEq, Eq)]
 pub enum StepKind {
     /// The peer puts bytes on its wire.
     Hex {

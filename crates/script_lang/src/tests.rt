@@ -1,4 +1,4 @@
-// Rows of the language of scripts: what each line asks for, and why others are refused.
+//! Rows of the language of scripts: what each line asks for, and why others are refused.
 
 use super::*;
 use std::alloc::Global;
@@ -9,11 +9,19 @@ mod names;
 mod steps;
 mod whole;
 
-/// The first line of a script that is none, and why.
-fn fault_in(alloc: Global, script: &[u8]) -> Option<(u32, ScriptCause)> {
+/// What reading a script answers, without its steps.
+fn read(alloc: Global, script: &[u8]) -> Result<(), ScriptRead> {
     match read_script(alloc, script) {
-        Err(ScriptRead::Fault { line, cause }) => Some((line, cause)),
-        _ => None,
+        Ok(_) => Ok(()),
+        Err(fault) => Err(fault),
+    }
+}
+
+/// The answer for the first line that is none and its cause, or for a script.
+fn answer(fault: Option<(u32, ScriptCause)>) -> Result<(), ScriptRead> {
+    match fault {
+        Some((line, cause)) => Err(ScriptRead::Fault { line, cause }),
+        None => Ok(()),
     }
 }
 

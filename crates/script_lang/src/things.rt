@@ -1,4 +1,4 @@
-// What a peer's own number stands for.
+//! What a peer's own number stands for.
 
 /// A file or a pipe of a peer.
 #[derive(Clone, Copy, Debug, PartialEq, Eq)]

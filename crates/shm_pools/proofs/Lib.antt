@@ -1,3 +1,4 @@
 mod Products
+mod WordPlaces
 mod Segments
 mod FileWords

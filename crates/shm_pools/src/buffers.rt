@@ -1,7 +1,7 @@
 //! Where a buffer lies in its file (Wayland's core protocol, `wl_shm_pool.create_buffer`).
 
-ghost use Rattle.std.specs.Prelude.{◌≡◌, ◌↔◌, ◌^◌, pos, ◌+ℤ◌, ◌*ℤ◌, ◌<ℤ◌, ◌≤ℤ◌, IsTrue};
-ghost use Rattle.shm_pools.specs.Buffers.{HasPixels, FitsImage, Fits};
+ghost use Rattle.std.specs.Prelude.{◌≡◌, ◌^◌, pos, ◌+ℤ◌, ◌*ℤ◌, ◌≤ℤ◌, ◌&&◌, int_lt, int_le};
+ghost use Rattle.shm_pools.specs.Buffers.{has_pixels, image_fits, fits_in};
 
 /// What `wl_shm_pool.create_buffer` says of a buffer, as the client sent it.
 #[derive(Clone, Copy, Debug, PartialEq, Eq, Drop)]
@@ -20,10 +20,10 @@ pub struct Buffer {
 
 /// Whether the buffer lies within the first `told` bytes of its file.
 ///
-/// An image of four bytes a pixel (formats 0, argb8888, and 1, xrgb8888) has whole rows there. A buffer of any other
-/// format begins there.
+/// An image of four bytes a pixel (formats 0, argb8888, and 1, xrgb8888) has whole rows there. A
+/// buffer of any other format begins there.
 pub fn fits(b: &Buffer, told: u32) -> bool
-    ensures { IsTrue result ↔ Fits b.now told }
+    ensures { result ≡ fits_in b.now told }
 {
     if has_pixels(b.format) {
         image_fits(b, told)
@@ -34,14 +34,14 @@ pub fn fits(b: &Buffer, told: u32) -> bool
 
 // Whether a pixel of this format has four bytes.
 fn has_pixels(format: u32) -> bool
-    ensures { IsTrue result ↔ HasPixels format }
+    ensures { result ≡ has_pixels format }
 {
     format == 0 || format == 1
 }
 
 // Whether the rows of an image of four bytes a pixel lie within the first `told` bytes.
 fn image_fits(b: &Buffer, told: u32) -> bool
-    ensures { IsTrue result ↔ FitsImage b.now told }
+    ensures { result ≡ image_fits b.now told }
 {
     if !has_image(b) || !is_room_for_row(b.width, b.stride) {
         return false;
@@ -51,21 +51,22 @@ fn image_fits(b: &Buffer, told: u32) -> bool
 
 // Whether the image has pixels, from a byte of the file on.
 fn has_image(b: &Buffer) -> bool
-    ensures { IsTrue result ↔ ((pos 0 ≤ℤ b.now.offset) × (pos 0 <ℤ b.now.width) × (pos 0 <ℤ b.now.height)) }
+    ensures { result ≡ (int_le (pos 0) b.now.offset
+        && (int_lt (pos 0) b.now.width && int_lt (pos 0) b.now.height)) }
 {
     b.offset >= 0 && b.width > 0 && b.height > 0
 }
 
 // Whether the rows, one every `stride` bytes, do not overlap.
 fn is_room_for_row(width: i32, stride: i32) -> bool
-    ensures { IsTrue result ↔ ((pos 4 *ℤ width) ≤ℤ stride) }
+    ensures { result ≡ int_le (pos 4 *ℤ width) stride }
 {
     4 * width as i64 <= stride as i64
 }
 
 // Whether the last row ends within the first `told` bytes.
 fn ends_within(b: &Buffer, told: u32) -> bool
-    ensures { IsTrue result ↔ ((b.now.offset +ℤ b.now.stride *ℤ b.now.height) ≤ℤ pos told) }
+    ensures { result ≡ int_le (b.now.offset +ℤ b.now.stride *ℤ b.now.height) (pos told) }
 {
     end_of_rows(b.offset, b.stride, b.height) <= told as i64
 }

@@ -4,11 +4,13 @@
 mod buffers;
 mod file;
 pub mod laws;
-mod lists;
+mod notes;
+mod places;
 
 pub use buffers::{Buffer, fits};
 pub use file::FilePen;
-pub use lists::{EyeList, FileEyes, FileEyesList, Note};
+pub use notes::{EyeList, FileEyes, FileEyesList, Note};
+pub use places::WordPlace;
 
 #[cfg(test)]
 mod tests;

@@ -1,3 +1,5 @@
+//! A file of a few segments, and buffers at the end of a file.
+
 ghost use Rattle.std.specs.Prelude.{◌≡◌, ◌<◌, length, IfOk};
 ghost use Rattle.shm_pools.specs.Files.{pen_at};
 
@@ -18,19 +20,33 @@ const IMAGE: Buffer = Buffer {
 fn file_pen(rt: HostRuntime) -> Result<(), Fail> {
     let mut pen = FilePen::new(rt.alloc(), 1, 64)?;
     pen.grow(128)?;
-    pen.grow(192)?;
     assert_eq!(rt; pen.number(), 1);
     let shared = pen.share()?;
-    assert_eq!(rt; (shared.number, shared.eyes.as_slice().len()), (1, 3));
+    assert_eq!(rt; (shared.number, shared.eyes.as_slice().len()), (1, 2));
     for eye in shared.eyes.as_slice() {
         assert_eq!(rt; (eye.words(), eye.low()), (8, 0));
     }
+    assert_eq!(rt;
+        shared.place_of(7),
+        Some(WordPlace {
+            segment: 0,
+            word: 7
+        })
+    );
+    assert_eq!(rt;
+        shared.place_of(9),
+        Some(WordPlace {
+            segment: 1,
+            word: 1
+        })
+    );
+    assert_eq!(rt; shared.place_of(16), None);
+    assert!(rt; fits(&IMAGE, 64) && !fits(&IMAGE, 63));
     Ok(())
 }
 
 #[test]
 fn buffers_at_the_end(rt: HostRuntime) {
-    assert!(rt; fits(&IMAGE, 64) && !fits(&IMAGE, 63));
     // The product of the largest numbers does not wrap.
     let huge = Buffer {
         width: 1,
@@ -50,7 +66,8 @@ fn buffers_at_the_end(rt: HostRuntime) {
 // What one segment's eye sees of its first two words.
 fn look(pen: &mut FilePen, segment: usize) -> Result<(Receipt, [u64; 2]), AllocError>
     requires { segment < length pen.old.segments }
-    ensures receipt { IfOk result (λ r. (r.0.pool ≡ (pen_at pen.old.segments segment).pool) × (r.0.number ≡ (pen_at pen.old.segments segment).number)) }
+    ensures receipt { let own = pen_at pen.old.segments segment in
+        IfOk result (λ r. (r.0.pool ≡ own.pool) × (r.0.number ≡ own.number)) }
     ensures same { pen.new ≡ pen.old }
 {
     let mut eyes = pen.share()?.eyes.into_vec();

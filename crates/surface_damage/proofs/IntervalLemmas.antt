@@ -5,8 +5,8 @@ use Rattle.std.proofs.lemmas.Bool.{lt-ltb, le-ltb, le-leb, lt-leb, cases_lt}
 use Rattle.block_intervals.specs.Sets.{lies_within}
 
 -- a scaled bound, cut off, bounds a place from below where the bound does so at the place's number
-leb-scaled : (first s count n : ℕ) → 0 < s → n < count → leb (min (first * s) count) n ≡ leb first (n / s)
-leb-scaled first s count n some l =
+leb_scaled : (first s count n : ℕ) → 0 < s → n < count → leb (min (first * s) count) n ≡ leb first (n / s)
+leb_scaled first s count n some l =
     let iff = le-div_iff_mul-le {k = s} {x = first} {y = n} some in
     ⊎_elim
     (λ below. let far : n < first * s = ⊎_elim (λ t. t) (λ t. absurd (let u : first ≤ n / s = iff.1 t in omega arith)) (cases_lt n (first * s)) in
@@ -15,8 +15,8 @@ leb-scaled first s count n some l =
     (cases_lt (n / s) first)
 
 -- and from above
-ltb-scaled : (end s count n : ℕ) → 0 < s → n < count → ltb n (min (end * s) count) ≡ ltb (n / s) end
-ltb-scaled end s count n some l =
+ltb_scaled : (end s count n : ℕ) → 0 < s → n < count → ltb n (min (end * s) count) ≡ ltb (n / s) end
+ltb_scaled end s count n some l =
     let iff = div-lt_iff_lt-mul {k = s} {x = n} {y = end} some in
     ⊎_elim
     (λ below. let near : n < end * s = iff.0 below in lt-ltb _ _ (omega arith) ∙ sym (lt-ltb (n / s) end below))
@@ -24,6 +24,6 @@ ltb-scaled end s count n some l =
     le-ltb _ _ (omega arith) ∙ sym (le-ltb (n / s) end from))
     (cases_lt (n / s) end)
 
-pub lies-scaled : (first end s count n : ℕ) → 0 < s → n < count → lies_within (min (first * s) count) (min (end * s) count) n ≡ lies_within first end (n / s)
-lies-scaled first end s count n some l =
-    ap (λ t. t && ltb n (min (end * s) count)) (leb-scaled first s count n some l) ∙ ap (λ t. leb first (n / s) && t) (ltb-scaled end s count n some l)
+pub lies_scaled : (first end s count n : ℕ) → 0 < s → n < count → lies_within (min (first * s) count) (min (end * s) count) n ≡ lies_within first end (n / s)
+lies_scaled first end s count n some l =
+    ap (λ t. t && ltb n (min (end * s) count)) (leb_scaled first s count n some l) ∙ ap (λ t. leb first (n / s) && t) (ltb_scaled end s count n some l)

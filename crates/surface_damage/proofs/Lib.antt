@@ -4,6 +4,9 @@ pub mod DueLemmas
 pub mod FilledLemmas
 pub mod ImageLemmas
 pub mod IntervalLemmas
+pub mod SweepLemmas
 pub mod ViewLemmas
-pub mod LawProofs
 pub mod StepLemmas
+pub mod SoundLemmas
+pub mod LawProofs
+pub mod NewestLemmas

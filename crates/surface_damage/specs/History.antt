@@ -1,5 +1,6 @@
--- What a surface shows and remembers, from Wayland's core protocol (wl_surface.attach, damage, damage_buffer,
--- set_buffer_scale, set_buffer_transform and commit): pending state, and what earlier commits showed.
+-- What a surface shows and remembers, from Wayland's core protocol (wl_surface.attach, damage,
+-- damage_buffer, set_buffer_scale, set_buffer_transform and commit): pending state, and what earlier
+-- commits showed.
 use Rattle.std.specs.Prelude.{ℕ, Bool, false, ◌&&◌, ◌==◌, List, Option, None, Some}
 use Rattle.std.specs.Ordering.{int_eq}
 use Rattle.surface_damage.specs.declared.rect.Damage.{Damage}
@@ -7,9 +8,14 @@ use Rattle.surface_damage.specs.declared.history.BufferKey.{BufferKey}
 use Rattle.surface_damage.specs.declared.history.Geometry.{Geometry}
 use Rattle.surface_damage.specs.declared.history.Shown.{Shown}
 use Rattle.surface_damage.specs.declared.transform.Transform.{Transform}
-use Rattle.surface_damage.specs.declared.transform.Transform.TheVariants.{Normal, Turned90, Turned180, Turned270, Flipped, FlippedTurned90, FlippedTurned180, FlippedTurned270}
+use Rattle.surface_damage.specs.declared.transform.Transform.TheVariants.{Normal, Turned90}
+use Rattle.surface_damage.specs.declared.transform.Transform.TheVariants.{Turned180, Turned270}
+use Rattle.surface_damage.specs.declared.transform.Transform.TheVariants.{Flipped, FlippedTurned90}
+use Rattle.surface_damage.specs.declared.transform.Transform.TheVariants.{FlippedTurned180}
+use Rattle.surface_damage.specs.declared.transform.Transform.TheVariants.{FlippedTurned270}
 
--- a commit: the buffer that it showed and its geometry, none where it showed none that lived and fitted; and its damage
+-- a commit: the buffer that it showed and its geometry, none where it showed none that lived and
+-- fitted; and its damage
 pub record Committed : Type 0 where
   pub content : Option Shown
   pub damage : List Damage
@@ -36,7 +42,9 @@ number_of FlippedTurned270 = 7
 -- the same scale, transform, width and height
 abbrev pub same_geometry : Geometry → Geometry → Bool
 same_geometry one other =
-    (one.scale == other.scale) && ((number_of one.transform == number_of other.transform) && (int_eq one.width other.width && int_eq one.height other.height))
+    (one.scale == other.scale)
+    && ((number_of one.transform == number_of other.transform)
+    && (int_eq one.width other.width && int_eq one.height other.height))
 
 -- a commit showed this buffer
 abbrev pub shows : BufferKey → Option Shown → Bool

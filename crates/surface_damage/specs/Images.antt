@@ -1,12 +1,19 @@
--- Which bytes of a file belong to the pixels of an image of four bytes a pixel (wl_shm_pool.create_buffer, formats argb8888
--- and xrgb8888), and which blocks of 64 bytes hold a byte that passes a test.
-use Rattle.std.specs.Prelude.{ℕ, zero, suc, ◌+◌, ◌-◌, ◌*◌, ◌/◌, ◌%◌, ◌<◌, ◌≤◌, Bool, false, ◌&&◌, ◌||◌, nat_le, nat_lt, unsigned_abs}
+-- Which bytes of a file belong to the pixels of an image of four bytes a pixel
+-- (wl_shm_pool.create_buffer, formats argb8888 and xrgb8888), and which blocks of 64 bytes hold a
+-- byte that passes a test; blocks are this project's own.
+use Rattle.std.specs.Prelude.{ℕ, zero, suc, ◌+◌, ◌-◌, ◌*◌, ◌/◌, ◌%◌, ◌<◌, ◌≤◌, unsigned_abs}
+use Rattle.std.specs.Prelude.{Bool, false, ◌&&◌, ◌||◌, nat_le, nat_lt}
 use Rattle.shm_pools.specs.declared.buffers.Buffer.{Buffer}
 use Rattle.surface_damage.specs.declared.image.Image.{Image}
 
 -- the image of a buffer that fits, whose numbers are not negative
 abbrev pub image_of : Buffer → Image
-image_of b = record { offset = unsigned_abs b.offset; width = unsigned_abs b.width; height = unsigned_abs b.height; stride = unsigned_abs b.stride }
+image_of b = record {
+  offset = unsigned_abs b.offset;
+  width = unsigned_abs b.width;
+  height = unsigned_abs b.height;
+  stride = unsigned_abs b.stride;
+}
 
 -- the image lies in the first `told` bytes of its file
 pub record LiesIn (image : Image) (told : ℕ) : Type 0 where
@@ -25,7 +32,10 @@ place_in_row image at = (at - image.offset) % image.stride
 -- the byte is one of a pixel, and that pixel (its column, then its row) passes the test
 abbrev pub in_pixels : Image → (ℕ → ℕ → Bool) → ℕ → Bool
 in_pixels image test at =
-    nat_le image.offset at && (nat_lt (row_of image at) image.height && (nat_lt (place_in_row image at) (4 * image.width) && test (place_in_row image at / 4) (row_of image at)))
+    nat_le image.offset at
+    && (nat_lt (row_of image at) image.height
+    && (nat_lt (place_in_row image at) (4 * image.width)
+    && test (place_in_row image at / 4) (row_of image at)))
 
 -- some number below `count` passes the test
 unfoldable pub any_below : (ℕ → Bool) → ℕ → Bool

@@ -4,6 +4,9 @@ pub mod Filled
 pub mod History
 pub mod Images
 pub mod Pixels
+pub mod Requests
+pub mod Sound
 pub mod Statements
 pub mod Steps
+pub mod Sweeps
 pub mod Views

@@ -1,11 +1,17 @@
--- Which pixel of a buffer a rectangle of damage covers, from Wayland's core protocol (wl_surface.damage, damage_buffer,
--- set_buffer_scale, set_buffer_transform and wl_output.transform), over whole numbers that never wrap.
-use Rattle.std.specs.Prelude.{ℕ, zero, suc, ◌-◌, ◌/◌, Bool, ◌&&◌, ◌==◌, if◌then◌else◌, ℤ, pos, negsuc, ◌+ℤ◌, int_lt, int_le}
+-- Which pixel of a buffer a rectangle of damage covers, from Wayland's core protocol
+-- (wl_surface.damage, damage_buffer, set_buffer_scale, set_buffer_transform and wl_output.transform),
+-- over whole numbers that never wrap.
+use Rattle.std.specs.Prelude.{ℕ, zero, suc, ◌-◌, ◌/◌, Bool, ◌&&◌, ◌==◌, if◌then◌else◌}
+use Rattle.std.specs.Prelude.{ℤ, pos, negsuc, ◌+ℤ◌, int_lt, int_le}
 use Rattle.surface_damage.specs.declared.rect.Rect.{Rect}
 use Rattle.surface_damage.specs.declared.rect.Damage.{Damage}
 use Rattle.surface_damage.specs.declared.rect.Damage.TheVariants.{InBuffer, InSurface}
 use Rattle.surface_damage.specs.declared.transform.Transform.{Transform}
-use Rattle.surface_damage.specs.declared.transform.Transform.TheVariants.{Normal, Turned90, Turned180, Turned270, Flipped, FlippedTurned90, FlippedTurned180, FlippedTurned270}
+use Rattle.surface_damage.specs.declared.transform.Transform.TheVariants.{Normal, Turned90}
+use Rattle.surface_damage.specs.declared.transform.Transform.TheVariants.{Turned180, Turned270}
+use Rattle.surface_damage.specs.declared.transform.Transform.TheVariants.{Flipped, FlippedTurned90}
+use Rattle.surface_damage.specs.declared.transform.Transform.TheVariants.{FlippedTurned180}
+use Rattle.surface_damage.specs.declared.transform.Transform.TheVariants.{FlippedTurned270}
 
 -- the scale that a request sets: 0 or less counts as 1
 abbrev pub scale_of : ℤ → ℕ
@@ -16,7 +22,14 @@ scale_of (negsuc n) = 1
 -- the transform of a number of wl_output.transform
 abbrev pub numbered : ℕ → Transform
 numbered n =
-    if n == 1 then Turned90 else if n == 2 then Turned180 else if n == 3 then Turned270 else if n == 4 then Flipped else if n == 5 then FlippedTurned90 else if n == 6 then FlippedTurned180 else if n == 7 then FlippedTurned270 else Normal
+    if n == 1 then Turned90
+    else if n == 2 then Turned180
+    else if n == 3 then Turned270
+    else if n == 4 then Flipped
+    else if n == 5 then FlippedTurned90
+    else if n == 6 then FlippedTurned180
+    else if n == 7 then FlippedTurned270
+    else Normal
 
 -- the transform that a request sets: another number than 0 to 7 counts as 0
 abbrev pub transform_of : ℤ → Transform

@@ -1,7 +1,9 @@
-// The part of an image that one rectangle of damage covers.
-ghost use Rattle.std.specs.Prelude.{◌≡◌, ℕ, ◌<◌, true};
+//! The part of an image that one rectangle of damage covers.
+
+ghost use Rattle.std.specs.Prelude.{◌≡◌, ℕ, ◌<◌, ◌↔◌, IsTrue};
 ghost use Rattle.surface_damage.specs.Pixels.{covers};
 ghost use Rattle.surface_damage.specs.Areas.{holds_pixel, IsWithin};
+ghost use Rattle.surface_damage.specs.Views.{covers_in};
 
 use crate::interval::{Interval, from_end, from_start};
 use crate::rect::{Damage, Rect};
@@ -16,27 +18,11 @@ pub(crate) struct Area {
 }
 
 impl Area {
-    // All pixels.
-    pub(crate) fn whole(width: u64, height: u64) -> Area
-        ensures pixels { (bx by : ℕ) → bx < width → by < height → holds_pixel result bx by ≡ true }
-        ensures within { IsWithin result width height }
-    {
-        Area {
-            columns: Interval {
-                first: 0,
-                end: width,
-            },
-            rows: Interval {
-                first: 0,
-                end: height,
-            },
-        }
-    }
-
     // The pixels that the damage covers.
     pub(crate) fn damaged(view: View, damage: Damage) -> Area
         requires { 0 < view.scale }
-        ensures pixels { (bx by : ℕ) → bx < view.image.width → by < view.image.height → holds_pixel result bx by ≡ covers damage view.scale view.transform view.image.width view.image.height bx by }
+        ensures pixels { (bx by : ℕ) → bx < view.image.width → by < view.image.height
+            → holds_pixel result bx by ≡ covers_in view bx by damage }
         ensures within { IsWithin result view.image.width view.image.height }
     {
         match damage {
@@ -46,7 +32,8 @@ impl Area {
     }
 
     fn in_buffer(view: View, rect: Rect) -> Area
-        ensures pixels { (bx by : ℕ) → bx < view.image.width → by < view.image.height → holds_pixel result bx by ≡ covers (Damage.InBuffer rect) view.scale view.transform view.image.width view.image.height bx by }
+        ensures pixels { (bx by : ℕ) → bx < view.image.width → by < view.image.height
+            → holds_pixel result bx by ≡ covers_in view bx by (Damage.InBuffer rect) }
         ensures within { IsWithin result view.image.width view.image.height }
     {
         Area {
@@ -55,10 +42,12 @@ impl Area {
         }
     }
 
-    // The rectangle's two sides, each along the side of the image that it lies on, and from its end where it is turned.
+    // The rectangle's two sides, each along the side of the image that it lies on, and from its end
+    // where it is turned.
     fn on_surface(view: View, rect: Rect) -> Area
         requires { 0 < view.scale }
-        ensures pixels { (bx by : ℕ) → bx < view.image.width → by < view.image.height → holds_pixel result bx by ≡ covers (Damage.InSurface rect) view.scale view.transform view.image.width view.image.height bx by }
+        ensures pixels { (bx by : ℕ) → bx < view.image.width → by < view.image.height
+            → holds_pixel result bx by ≡ covers_in view bx by (Damage.InSurface rect) }
         ensures within { IsWithin result view.image.width view.image.height }
     {
         let (scale, width, height) = (view.scale, view.image.width, view.image.height);
@@ -97,5 +86,13 @@ impl Area {
                 rows: from_end(across, scale, height),
             },
         }
+    }
+
+    // Whether it has a pixel.
+    pub(crate) fn has_pixels(self) -> bool
+        ensures { IsTrue result
+            ↔ ((self.columns.first < self.columns.end) × (self.rows.first < self.rows.end)) }
+    {
+        self.columns.first < self.columns.end && self.rows.first < self.rows.end
     }
 }

@@ -1,27 +1,32 @@
-// What a list of commits, the newest first, says of damage.
-ghost use Rattle.std.specs.Prelude.{◌≡◌, ℕ, ◌<◌, ◌||◌, position, length, OnOk, IfSome};
-ghost use Rattle.std.specs.List.{flat_map, list_any, list_all};
-ghost use Rattle.block_intervals.specs.Sets.{has};
-ghost use Rattle.surface_damage.specs.History.{shows, has_geometry};
-ghost use Rattle.surface_damage.specs.Images.{in_pixels, holds};
-ghost use Rattle.surface_damage.specs.Views.{IsShown, covers_in};
+//! What a list of commits, the newest first, says of damage.
 
+ghost use Rattle.std.specs.Prelude.{◌≡◌, ℕ, ◌<◌, ◌||◌, position, length, OnOk, IfSome};
+ghost use Rattle.std.specs.List.{All, flat_map};
+ghost use Rattle.surface_damage.specs.Areas.{some_holds, IsPart};
+ghost use Rattle.surface_damage.specs.DueBytes.{all_had};
+ghost use Rattle.surface_damage.specs.History.{shows};
+ghost use Rattle.surface_damage.specs.Views.{IsShown, some_covers};
+
+use crate::area::Area;
 use crate::history::{BufferKey, Commit, Geometry};
 use crate::view::View;
-use block_intervals::Blocks;
 use std::alloc::AllocError;
 
-// Adds the blocks of the damage of these commits.
+// Adds the areas that the damage of these commits covers.
 pub(crate) fn add_commits(
-    blocks: &mut Blocks,
+    areas: &mut Vec<Area>,
     view: View,
     commits: &[Commit],
 ) -> Result<(), AllocError>
-    requires { IsShown view }
-    ensures { OnOk result ((block : ℕ) → has block blocks.new ≡ (has block blocks.old || holds (in_pixels view.image (λ bx by. list_any (covers_in view bx by) (flat_map (λ c. c.damage) commits.now))) block)) }
+    requires shown { IsShown view }
+    requires parts { All (IsPart view.image) areas.old.items }
+    ensures pixels { OnOk result ((bx by : ℕ) → bx < view.image.width → by < view.image.height
+        → some_holds areas.new.items bx by ≡ (some_holds areas.old.items bx by
+        || some_covers view (flat_map (λ c. c.damage) commits.now) bx by)) }
+    ensures parts { All (IsPart view.image) areas.new.items }
 {
     for commit in commits {
-        view.add_damages(blocks, commit.damage())?;
+        view.add_damage(areas, commit.damage())?;
     }
     Ok(())
 }
@@ -36,7 +41,7 @@ pub(crate) fn newest_with(commits: &[Commit], key: BufferKey) -> Option<usize>
 
 // Whether all these commits had the geometry.
 pub(crate) fn all_have(commits: &[Commit], geometry: Geometry) -> bool
-    ensures { result ≡ list_all (λ c. has_geometry geometry c.content) commits.now }
+    ensures { result ≡ all_had geometry commits.now }
 {
     commits.iter().all(|commit| commit.has_geometry(geometry))
 }

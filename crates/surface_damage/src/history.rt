@@ -1,4 +1,5 @@
-// What a surface remembers of its commits.
+//! What a surface remembers of its commits.
+
 ghost use Rattle.std.specs.Prelude.{◌≡◌};
 ghost use Rattle.surface_damage.specs.History.{same_geometry, shows, has_geometry, number_of};
 

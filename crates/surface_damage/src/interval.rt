@@ -1,4 +1,5 @@
-// Stretches of places along one side of an image.
+//! Stretches of places along one side of an image.
+
 ghost use Rattle.std.specs.Prelude.{◌≡◌, ℕ, ◌+◌, ◌-◌, ◌/◌, ◌^◌, ◌<◌, ◌≤◌};
 ghost use Rattle.block_intervals.specs.Sets.{lies_within};
 ghost use Rattle.surface_damage.specs.Pixels.{in_span};
@@ -14,7 +15,8 @@ pub(crate) struct Interval {
 
 // The whole numbers of 0 or more along the side, whose end does not wrap.
 fn span(side: Side) -> Interval
-    ensures numbers { (n : ℕ) → lies_within result.first result.end n ≡ in_span side.low side.length n }
+    ensures numbers { (n : ℕ)
+        → lies_within result.first result.end n ≡ in_span side.low side.length n }
     ensures small { (result.first < 2 ^ 32) × (result.end < 2 ^ 32) }
 {
     let end = i64::from(side.low) + i64::from(side.length);
@@ -25,11 +27,13 @@ fn span(side: Side) -> Interval
 }
 
 impl Interval {
-    // The places below `count` that come to a number of this interval, `scale` of them to each number.
+    // The places below `count` that come to a number of this interval, `scale` of them to each
+    // number.
     fn scaled(self, scale: u32, count: u64) -> Interval
         requires scale { 0 < scale }
         requires small { (self.first < 2 ^ 32) × (self.end < 2 ^ 32) }
-        ensures places { (n : ℕ) → n < count → lies_within result.first result.end n ≡ lies_within self.first self.end (n / scale) }
+        ensures places { (n : ℕ) → n < count
+            → lies_within result.first result.end n ≡ lies_within self.first self.end (n / scale) }
         ensures within { (result.first ≤ count) × (result.end ≤ count) }
     {
         Interval {
@@ -41,7 +45,8 @@ impl Interval {
     // The places below `count`, counted from the other side.
     fn mirrored(self, count: u64) -> Interval
         requires within { (self.first ≤ count) × (self.end ≤ count) }
-        ensures places { (n : ℕ) → n < count → lies_within result.first result.end n ≡ lies_within self.first self.end (count - 1 - n) }
+        ensures places { (n : ℕ) → n < count → lies_within result.first result.end n
+            ≡ lies_within self.first self.end (count - 1 - n) }
         ensures within { (result.first ≤ count) × (result.end ≤ count) }
     {
         Interval {
@@ -54,7 +59,8 @@ impl Interval {
 // The places below `count`, counted from the start, whose number lies along the side.
 pub(crate) fn from_start(side: Side, scale: u32, count: u64) -> Interval
     requires { 0 < scale }
-    ensures places { (n : ℕ) → n < count → lies_within result.first result.end n ≡ in_span side.low side.length (n / scale) }
+    ensures places { (n : ℕ) → n < count
+        → lies_within result.first result.end n ≡ in_span side.low side.length (n / scale) }
     ensures within { result.end ≤ count }
 {
     span(side).scaled(scale, count)
@@ -63,7 +69,8 @@ pub(crate) fn from_start(side: Side, scale: u32, count: u64) -> Interval
 // The places below `count` whose number, counted from the end, lies along the side.
 pub(crate) fn from_end(side: Side, scale: u32, count: u64) -> Interval
     requires { 0 < scale }
-    ensures places { (n : ℕ) → n < count → lies_within result.first result.end n ≡ in_span side.low side.length ((count - 1 - n) / scale) }
+    ensures places { (n : ℕ) → n < count → lies_within result.first result.end n
+        ≡ in_span side.low side.length ((count - 1 - n) / scale) }
     ensures within { result.end ≤ count }
 {
     span(side).scaled(scale, count).mirrored(count)

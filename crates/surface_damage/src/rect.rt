@@ -1,3 +1,5 @@
+//! Rectangles of damage, as clients send them.
+
 ghost use Rattle.std.specs.Prelude.{◌≡◌};
 
 /// A rectangle of `wl_surface.damage` or `wl_surface.damage_buffer`, as the client sent it.

@@ -1,3 +1,5 @@
+//! What a commit is told of its buffer, and what it answers.
+
 use block_intervals::Blocks;
 use shm_pools::Buffer;
 

@@ -1,19 +1,24 @@
-// One surface: its requests, and the blocks that a commit fills.
-ghost use Rattle.std.specs.Prelude.{◌≡◌, ℕ, ◌+◌, ◌<◌, ◌||◌, [], ◌∷◌, length, take, IsTrue, IfOk, OnOk, OnErr, IfSome};
-ghost use Rattle.std.specs.List.{list_any};
-ghost use Rattle.shm_pools.specs.Buffers.{Fits as FitsIn};
+//! One surface: its requests, and the blocks that a commit fills.
+
+ghost use Rattle.std.specs.Prelude.{◌≡◌, ℕ, ◌+◌, ◌<◌, ◌||◌, [], ◌∷◌, length, take, IsTrue};
+ghost use Rattle.std.specs.Prelude.{IfOk, OnOk, OnErr, IfSome};
+ghost use Rattle.shm_pools.specs.Buffers.{has_pixels, fits_in};
 ghost use Rattle.block_intervals.specs.Sets.{has, Rises};
 ghost use Rattle.surface_damage.specs.Images.{in_pixels, image_of, holds};
-ghost use Rattle.surface_damage.specs.Views.{IsShown, covers_in};
-ghost use Rattle.surface_damage.specs.DueBytes.{geometry_of, commits_since, damage_since, has_pixels, pixel_is_due, byte_is_due, is_due, Stands};
+ghost use Rattle.surface_damage.specs.Views.{IsShown, some_covers};
+ghost use Rattle.surface_damage.specs.DueBytes.{geometry_of, commits_since, damage_since, backlog};
+ghost use Rattle.surface_damage.specs.DueBytes.{pixel_is_due, byte_is_due, is_due, Stands};
 ghost use Rattle.surface_damage.specs.Filled.{filled_at, few};
-ghost use Rattle.surface_damage.specs.Steps.{fresh, with_attached, with_damage, with_scale, with_transform, content_of, with_commit};
+ghost use Rattle.surface_damage.specs.Sound.{IsSoundSurface};
+ghost use Rattle.surface_damage.specs.Steps.{fresh, with_attached, with_damage, with_scale};
+ghost use Rattle.surface_damage.specs.Steps.{with_transform, content_of, with_commit};
 
 use crate::commits::{add_commits, all_have, newest_with};
 use crate::history::{BufferKey, Commit, Geometry, Shown};
 use crate::image::{Image, add_bytes};
 use crate::rect::Damage;
 use crate::standing::Standing;
+use crate::sweep::add_areas;
 use crate::transform::{Transform, read_scale, read_transform};
 use crate::view::View;
 use block_intervals::Blocks;
@@ -39,13 +44,20 @@ pub(crate) struct Surface {
 
 impl Model for Surface {
     ghost use Rattle.std.specs.Prelude.{◌<◌, ◌≤◌, length};
+    ghost use Rattle.surface_damage.specs.DueBytes.{backlog};
     ghost use Rattle.surface_damage.specs.History.{SurfaceState};
 
     ghost Value = { SurfaceState };
 
-    ghost view = { λ s. record { attached = s.attached; scale = s.scale; transform = s.transform; pending = s.pending.items; commits = s.commits.items } };
+    ghost view = { λ s. record {
+      attached = s.attached;
+      scale = s.scale;
+      transform = s.transform;
+      pending = s.pending.items;
+      commits = s.commits.items;
+    } };
 
-    ghost invariant = { λ s. (0 < s.scale) × (length s.commits.items ≤ 7) };
+    ghost invariant = { λ s. (0 < s.scale) × (length s.commits.items ≤ backlog) };
 }
 
 impl Surface {
@@ -93,9 +105,10 @@ impl Surface {
         self.transform = read_transform(transform);
     }
 
-    // The blocks that the commit fills, which becomes the newest one. Want of memory changes nothing.
+    // The blocks that the commit fills, which becomes the newest one. Want of memory changes
+    // nothing.
     pub(crate) fn commit(&mut self, standing: &Standing) -> Result<Blocks, AllocError>
-        requires { Stands self.old standing.now }
+        requires { Stands standing.now }
         ensures blocks { IfOk result (λ blocks. blocks ≡ filled_at self.old standing.now) }
         ensures ok { OnOk result (self.new ≡ with_commit standing.now self.old) }
         ensures err { OnErr result (self.new ≡ self.old) }
@@ -108,7 +121,12 @@ impl Surface {
 
     // What is pending becomes the newest commit, with this content.
     fn remember(&mut self, content: Option<Shown>) -> Result<(), AllocError>
-        ensures ok { OnOk result (self.new ≡ record self.old { pending = []; commits = take 7 (record { content = content; damage = self.old.pending } ∷ self.old.commits) }) }
+        ensures ok { OnOk result (self.new ≡ record self.old {
+          pending = [];
+          commits =
+              take backlog (record { content = content; damage = self.old.pending }
+              ∷ self.old.commits);
+        }) }
         ensures err { OnErr result (self.new ≡ self.old) }
     {
         let nothing = Vec::new(*self.pending.allocator());
@@ -154,7 +172,7 @@ impl Surface {
 
     // The blocks that hold a due byte; where these make too many runs, all from the first to the last.
     fn filled_blocks(&self, standing: &Standing) -> Result<Blocks, AllocError>
-        requires { Stands self.now standing.now }
+        requires { Stands standing.now }
         ensures { IfOk result (λ blocks. blocks ≡ filled_at self.now standing.now) }
     {
         let mut blocks = self.due_blocks(standing)?;
@@ -164,8 +182,9 @@ impl Surface {
 
     // The blocks that hold a due byte.
     fn due_blocks(&self, standing: &Standing) -> Result<Blocks, AllocError>
-        requires { Stands self.now standing.now }
-        ensures { IfOk result (λ blocks. (block : ℕ) → has block blocks ≡ holds (is_due self.now standing.now) block) }
+        requires { Stands standing.now }
+        ensures { IfOk result (λ blocks. (block : ℕ)
+            → has block blocks ≡ holds (is_due self.now standing.now) block) }
     {
         let mut blocks = Blocks::new(*self.pending.allocator());
         match *standing {
@@ -188,8 +207,9 @@ impl Surface {
         told: u32,
         key: BufferKey,
     ) -> Result<(), AllocError>
-        requires { FitsIn buffer.now told }
-        ensures { OnOk result ((block : ℕ) → has block blocks.new ≡ (has block blocks.old || holds (byte_is_due self.now key buffer.now told) block)) }
+        requires { IsTrue (fits_in buffer.now told) }
+        ensures { OnOk result ((block : ℕ) → has block blocks.new ≡ (has block blocks.old
+            || holds (byte_is_due self.now key buffer.now told) block)) }
     {
         if is_four_byte(buffer.format) {
             self.add_image(blocks, buffer, told, key)
@@ -206,9 +226,11 @@ impl Surface {
         told: u32,
         key: BufferKey,
     ) -> Result<(), AllocError>
-        requires fits { FitsIn buffer.now told }
+        requires fits { IsTrue (fits_in buffer.now told) }
         requires pixels { IsTrue (has_pixels buffer.now.format) }
-        ensures { OnOk result ((block : ℕ) → has block blocks.new ≡ (has block blocks.old || holds (in_pixels (image_of buffer.now) (pixel_is_due self.now key buffer.now)) block)) }
+        ensures { OnOk result ((block : ℕ) → has block blocks.new ≡ (has block blocks.old
+            || holds (in_pixels (image_of buffer.now)
+            (pixel_is_due self.now key buffer.now)) block)) }
     {
         let view = self.view(buffer, told);
         match self.commits_since(key, self.geometry(buffer)) {
@@ -219,9 +241,14 @@ impl Surface {
 
     // The image of a buffer that fits, as this surface shows it.
     fn view(&self, buffer: &Buffer, told: u32) -> View
-        requires fits { FitsIn buffer.now told }
+        requires fits { IsTrue (fits_in buffer.now told) }
         requires pixels { IsTrue (has_pixels buffer.now.format) }
-        ensures view { result ≡ record { image = image_of buffer.now; told = told; scale = self.now.scale; transform = self.now.transform } }
+        ensures view { result ≡ record {
+          image = image_of buffer.now;
+          told = told;
+          scale = self.now.scale;
+          transform = self.now.transform;
+        } }
         ensures shown { IsShown result }
     {
         View {
@@ -232,7 +259,8 @@ impl Surface {
         }
     }
 
-    // How many commits there were since the last one with this buffer, where the damage since then is enough.
+    // How many commits there were since the last one with this buffer, where the damage since then
+    // is enough.
     fn commits_since(&self, key: BufferKey, geometry: Geometry) -> Option<usize>
         ensures since { result ≡ commits_since self.now key geometry }
         ensures within { IfSome result (λ back. back < length self.now.commits) }
@@ -253,10 +281,15 @@ impl Surface {
     fn add_since(&self, blocks: &mut Blocks, view: View, back: usize) -> Result<(), AllocError>
         requires shown { IsShown view }
         requires within { back < length self.now.commits }
-        ensures { OnOk result ((block : ℕ) → has block blocks.new ≡ (has block blocks.old || holds (in_pixels view.image (λ bx by. list_any (covers_in view bx by) (damage_since self.now back))) block)) }
+        ensures { OnOk result ((block : ℕ) → has block blocks.new ≡ (has block blocks.old
+            || holds (in_pixels view.image
+            (some_covers view (damage_since self.now back))) block)) }
     {
-        view.add_damages(blocks, &self.pending)?;
-        add_commits(blocks, view, &self.commits[..back])
+        let alloc = *self.pending.allocator();
+        let mut areas = Vec::new(alloc);
+        view.add_damage(&mut areas, &self.pending)?;
+        add_commits(&mut areas, view, &self.commits[..back])?;
+        add_areas(alloc, blocks, view.image, areas, view.told)
     }
 }
 

@@ -1,3 +1,5 @@
+//! How a buffer lies on its surface.
+
 ghost use Rattle.std.specs.Prelude.{◌≡◌, ◌≤◌};
 ghost use Rattle.surface_damage.specs.Pixels.{scale_of, transform_of};
 

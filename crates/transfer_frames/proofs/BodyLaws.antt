@@ -5,12 +5,13 @@ use Rattle.std.specs.Int.{w32, cast_signed, cast_unsigned}
 use Rattle.std.proofs.lemmas.Bool.{ne_eqb, eqb-true, eqb-false, eq-eqb, leb-true, le-leb, ltb-true, lt-ltb, and_parts, and_from}
 use Rattle.std.proofs.lemmas.List.{append-nil, take_at, drop_at, drop-drop, length-append, length-take, length-drop, take-append-drop, nil_from_length}
 use Rattle.wl_wire.specs.Wire.{cut_rest}
+use Rattle.transfer_frames.specs.declared.frame.TheConstants.{LONGEST_TRANSFER}
 use Rattle.transfer_frames.specs.declared.frame.Frame.{Frame}
 use Rattle.transfer_frames.specs.declared.frame.Frame.TheVariants as frames
 use Rattle.transfer_frames.specs.declared.kinds.FrameType.{FrameType}
 use Rattle.transfer_frames.specs.declared.kinds.FrameType.TheVariants.{Protocol, Inject, OpenFile, ExtendFile, Fill, OpenPipe, PipeTransfer, PipeShutR, PipeShutW, Ack, Restart, Close}
 use Rattle.transfer_frames.specs.Numbers.{word_bytes, word_of, long_bytes, long_of, rid_bytes, rid_of, words_of, IsWord, IsLong, IsRid, IsBytes}
-use Rattle.transfer_frames.specs.Grammar.{type_of, body, size, HasFields}
+use Rattle.transfer_frames.specs.Grammar.{type_of, body, body_length, HasFields}
 use Rattle.transfer_frames.specs.Faults.{has_length, has_zero_rid, has_range, has_messages}
 use Rattle.transfer_frames.specs.Front.{value}
 use Rattle.transfer_frames.proofs.NumberLaws.{IsBytes-drop, length-word_bytes, word_of-word_bytes, word_of-below, word_parts, length-long_bytes, long_of-long_bytes, long_of-below, long_bytes-long_of, length-rid_bytes, word_of-rid_bytes, rid_of-rid_bytes, rid_parts, cast_not_zero, IsRid-rid_of}
@@ -104,45 +105,27 @@ length-body (frames.OpenPipe rid) h = eq-eqb _ 4 (length-rid_bytes rid)
 length-body (frames.PipeTransfer rid bytes) h =
     let len : length (rid_bytes rid ++ bytes) ≡ 4 + length bytes = omega (arith, length-append (rid_bytes rid) bytes, length-rid_bytes rid) in
     let some : 5 ≤ 4 + length bytes = omega arith in
-    let few : 4 + length bytes ≤ 65540 = omega arith in
-    rw len (and_from (nat_le 5 (4 + length bytes)) (nat_le (4 + length bytes) 65540) (le-leb 5 (4 + length bytes) some) (le-leb (4 + length bytes) 65540 few))
+    let few : 4 + length bytes ≤ (4 + LONGEST_TRANSFER) = omega arith in
+    rw len (and_from (nat_le 5 (4 + length bytes)) (nat_le (4 + length bytes) (4 + LONGEST_TRANSFER)) (le-leb 5 (4 + length bytes) some) (le-leb (4 + length bytes) (4 + LONGEST_TRANSFER) few))
 length-body (frames.PipeShutR rid) h = eq-eqb _ 4 (length-rid_bytes rid)
 length-body (frames.PipeShutW rid) h = eq-eqb _ 4 (length-rid_bytes rid)
 length-body (frames.Ack count) h = eq-eqb _ 8 (length-long_bytes count)
 length-body (frames.Restart token connection received) h = eq-eqb _ 28 (restart_length token connection received h.0)
 length-body (frames.Close reason) h = eq-eqb _ 4 (length-word_bytes reason)
 
--- a size as a sum
-abbrev pub short_size : Frame → ℕ
-short_size (frames.Protocol messages) = 4 + length messages
-short_size (frames.Inject rids) = 4 + 4 * length rids
-short_size (frames.OpenFile rid size) = 12
-short_size (frames.ExtendFile rid size) = 12
-short_size (frames.Fill rid start end bytes) = 16 + length bytes
-short_size (frames.OpenPipe rid) = 8
-short_size (frames.PipeTransfer rid bytes) = 8 + length bytes
-short_size (frames.PipeShutR rid) = 8
-short_size (frames.PipeShutW rid) = 8
-short_size (frames.Ack count) = 12
-short_size (frames.Restart token connection received) = 32
-short_size (frames.Close reason) = 8
-
-size-is : (frame : Frame) → HasFields frame → size frame ≡ short_size frame
-size-is (frames.Protocol messages) h = refl
-size-is (frames.Inject rids) h = omega (arith, length-rids rids)
-size-is (frames.OpenFile rid size) h = omega (arith, length-append (rid_bytes rid) (word_bytes size), length-rid_bytes rid, length-word_bytes size)
-size-is (frames.ExtendFile rid size) h = omega (arith, length-append (rid_bytes rid) (word_bytes size), length-rid_bytes rid, length-word_bytes size)
-size-is (frames.Fill rid start end bytes) h = omega (arith, fill_length rid start end bytes)
-size-is (frames.OpenPipe rid) h = omega (arith, length-rid_bytes rid)
-size-is (frames.PipeTransfer rid bytes) h = omega (arith, length-append (rid_bytes rid) bytes, length-rid_bytes rid)
-size-is (frames.PipeShutR rid) h = omega (arith, length-rid_bytes rid)
-size-is (frames.PipeShutW rid) h = omega (arith, length-rid_bytes rid)
-size-is (frames.Ack count) h = omega (arith, length-long_bytes count)
-size-is (frames.Restart token connection received) h = omega (arith, restart_length token connection received h.0)
-size-is (frames.Close reason) h = omega (arith, length-word_bytes reason)
-
-pub size_at : (frame g : Frame) → HasFields frame → frame ≡ g → short_size g ≡ size frame
-size_at frame g h e = ap short_size (sym e) ∙ sym (size-is frame h)
+pub body_length_is : (frame : Frame) → HasFields frame → length (body frame) ≡ body_length frame
+body_length_is (frames.Protocol messages) h = refl
+body_length_is (frames.Inject rids) h = omega (arith, length-rids rids)
+body_length_is (frames.OpenFile rid size) h = omega (arith, length-append (rid_bytes rid) (word_bytes size), length-rid_bytes rid, length-word_bytes size)
+body_length_is (frames.ExtendFile rid size) h = omega (arith, length-append (rid_bytes rid) (word_bytes size), length-rid_bytes rid, length-word_bytes size)
+body_length_is (frames.Fill rid start end bytes) h = fill_length rid start end bytes
+body_length_is (frames.OpenPipe rid) h = length-rid_bytes rid
+body_length_is (frames.PipeTransfer rid bytes) h = omega (arith, length-append (rid_bytes rid) bytes, length-rid_bytes rid)
+body_length_is (frames.PipeShutR rid) h = length-rid_bytes rid
+body_length_is (frames.PipeShutW rid) h = length-rid_bytes rid
+body_length_is (frames.Ack count) h = length-long_bytes count
+body_length_is (frames.Restart token connection received) h = restart_length token connection received h.0
+body_length_is (frames.Close reason) h = length-word_bytes reason
 
 first_not_zero : (z : ℤ) (rest : List ℕ) → IsRid z → (word_of (rid_bytes z ++ rest) == 0) ≡ false
 first_not_zero z rest rid = rw (word_of-rid_bytes z rest rid.1) (ne_eqb _ 0 (cast_not_zero z rid))
@@ -254,7 +237,7 @@ body-value Fill bytes fits len =
     fill_parts bytes fits (omega arith)
 body-value OpenPipe bytes fits len = last_rid bytes fits (eqb-true _ 4 len)
 body-value PipeTransfer bytes fits len =
-    let some : 5 ≤ length bytes = leb-true 5 (length bytes) (and_parts (nat_le 5 (length bytes)) (nat_le (length bytes) 65540) len).0 in
+    let some : 5 ≤ length bytes = leb-true 5 (length bytes) (and_parts (nat_le 5 (length bytes)) (nat_le (length bytes) (4 + LONGEST_TRANSFER)) len).0 in
     rid_parts bytes (omega arith) fits
 body-value PipeShutR bytes fits len = last_rid bytes fits (eqb-true _ 4 len)
 body-value PipeShutW bytes fits len = last_rid bytes fits (eqb-true _ 4 len)
@@ -312,9 +295,9 @@ fields-value ExtendFile bytes fits p = (first_rid bytes fits p.rids, word_behind
 fields-value Fill bytes fits p = fields-fill bytes fits p
 fields-value OpenPipe bytes fits p = first_rid bytes fits p.rids
 fields-value PipeTransfer bytes fits p =
-    let len = and_parts (nat_le 5 (length bytes)) (nat_le (length bytes) 65540) p.long in
+    let len = and_parts (nat_le 5 (length bytes)) (nat_le (length bytes) (4 + LONGEST_TRANSFER)) p.long in
     let some : 5 ≤ length bytes = leb-true 5 (length bytes) len.0 in
-    let few : length bytes ≤ 65540 = leb-true (length bytes) 65540 len.1 in
+    let few : length bytes ≤ (4 + LONGEST_TRANSFER) = leb-true (length bytes) (4 + LONGEST_TRANSFER) len.1 in
     let count : length (drop 4 bytes) ≡ length bytes - 4 = length-drop 4 bytes in
     (first_rid bytes fits p.rids, omega arith, omega arith)
 fields-value PipeShutR bytes fits p = first_rid bytes fits p.rids

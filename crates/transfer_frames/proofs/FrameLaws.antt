@@ -1,21 +1,22 @@
 -- The two laws of the grammar: a spelled frame has no fault and is seen whole, and bytes without a fault are a frame's spelling.
-use Rattle.std.proofs.Common.{◌≡◌, ℕ, zero, suc, ◌-◌, ◌^◌, ◌<◌, ◌≤◌, ◌==◌, Bool, true, false, not, cond, eqb, nat_lt, List, [], ◌∷◌, ◌++◌, length, take, drop, replicate, Option, Some, None, refl, sym, ap, ◌∙◌, append_assoc, arith}
+use Rattle.std.proofs.Common.{◌≡◌, ℕ, zero, suc, ◌+◌, ◌-◌, ◌^◌, ◌<◌, ◌≤◌, ◌==◌, Bool, true, false, not, cond, eqb, nat_lt, List, [], ◌∷◌, ◌++◌, length, take, drop, replicate, Option, Some, None, refl, sym, ap, ◌∙◌, append_assoc, arith}
 use Rattle.std.specs.Prelude.{is_none}
 use Rattle.std.specs.List.{list_all}
 use Rattle.std.proofs.lemmas.Bool.{eqb-true, le-ltb, ltb-false, not-false, and_parts}
 use Rattle.std.proofs.lemmas.List.{take_at, drop_at, length-append, length-take, length-drop, length-replicate, take-append-drop, drop-append-le}
 use Rattle.std.proofs.lemmas.Nat.{div-mul-add, mod-mul-add}
+use Rattle.transfer_frames.specs.declared.frame.TheConstants.{LARGEST_FRAME}
 use Rattle.transfer_frames.specs.declared.frame.Frame.{Frame}
 use Rattle.transfer_frames.specs.declared.cause.FrameCause.{FrameCause}
 use Rattle.transfer_frames.specs.declared.cause.FrameCause.TheVariants as causes
 use Rattle.transfer_frames.specs.declared.kinds.FrameType.{FrameType}
 use Rattle.transfer_frames.specs.declared.kinds.FrameType.TheVariants.{Protocol, Inject, OpenFile, ExtendFile, Fill, OpenPipe, PipeTransfer, PipeShutR, PipeShutW, Ack, Restart, Close}
 use Rattle.transfer_frames.specs.Numbers.{word_bytes, word_of, IsBytes}
-use Rattle.transfer_frames.specs.Grammar.{type_number, type_at, type_of, body, size, first_word, padded, padding, spelling, MOST, IsFrame, Spells}
+use Rattle.transfer_frames.specs.Grammar.{type_number, type_at, type_of, body, body_length, size, first_word, padded, padding, spelling, IsFrame, Spells}
 use Rattle.transfer_frames.specs.Faults.{size_in, type_in, frame_length, word_fault, has_length, has_zero_rid, has_range, has_messages, body_fault, body_in, padding_in, or_else, rest_fault, first_fault}
 use Rattle.transfer_frames.specs.Front.{value, value_of, frame_in}
 use Rattle.transfer_frames.proofs.NumberLaws.{IsBytes-drop, IsBytes-take, length-word_bytes, word_of-word_bytes, word_parts}
-use Rattle.transfer_frames.proofs.BodyLaws.{value-body, length-body, rids-body, range-body, messages-body, type_of-value, body-value, Passes, fields-value}
+use Rattle.transfer_frames.proofs.BodyLaws.{body_length_is, value-body, length-body, rids-body, range-body, messages-body, type_of-value, body-value, Passes, fields-value}
 
 -- ---- types and their numbers
 
@@ -80,7 +81,7 @@ both_none (Some c) b e = absurd cc
 -- what a first word without a fault shows
 pub record WordPasses (word : ℕ) : Type 0 where
   pub least : 4 ≤ size_in word
-  pub most : size_in word ≤ MOST
+  pub most : size_in word ≤ LARGEST_FRAME
   pub type : FrameType
   pub named : type_at (type_in word) ≡ Some type
 
@@ -88,7 +89,7 @@ pub word_passes : (word : ℕ) → word_fault word ≡ None → WordPasses word
 unfolding word_fault
 word_passes word e =
     let a = passed (nat_lt (size_in word) 4) causes.SizeSmall _ e in
-    let b = passed (nat_lt MOST (size_in word)) causes.SizeLarge _ a.1 in
+    let b = passed (nat_lt LARGEST_FRAME (size_in word)) causes.SizeLarge _ a.1 in
     let c = passed (nat_lt 18 (type_in word)) causes.UnknownType _ b.1 in
     let d = passed (is_none (type_at (type_in word))) (causes.LeftOut (type_in word)) _ c.1 in
     let t = some_from_test (type_at (type_in word)) d.0 in
@@ -144,6 +145,10 @@ unfolding spelling
 length-spelling frame =
     omega (arith, length-append (word_bytes (first_word frame)) (body frame ++ padding frame), length-append (body frame) (padding frame), length-word_bytes (first_word frame), length-replicate {A = ℕ} (padded (size frame) - size frame) 0)
 
+-- the same by the body's length, for a frame whose fields have values that their places hold
+pub spelling_length : (frame : Frame) → IsFrame frame → length (spelling frame) ≡ padded (4 + body_length frame)
+spelling_length frame is = length-spelling frame ∙ ap (λ (n : ℕ). padded (4 + n)) (body_length_is frame is.fields)
+
 spelled_body : (frame : Frame) → drop 4 (take (size frame) (spelling frame)) ≡ body frame
 unfolding spelling
 spelled_body frame =
@@ -163,7 +168,7 @@ pub spelled_word_fault : (frame : Frame) → IsFrame frame → word_fault (first
 unfolding word_fault
 spelled_word_fault frame h =
     let least : nat_lt (size frame) 4 ≡ false = le-ltb _ _ (omega arith) in
-    let most : nat_lt MOST (size frame) ≡ false = le-ltb _ _ h.fits in
+    let most : nat_lt LARGEST_FRAME (size frame) ≡ false = le-ltb _ _ h.fits in
     let known : nat_lt 18 (type_number (type_of frame)) ≡ false = le-ltb _ _ (number-below (type_of frame)) in
     let named : is_none (type_at (type_in (first_word frame))) ≡ false = ap is_none (spelled_name frame) in
     rw (spelled_size frame, least, most, spelled_type frame, known) (ap (λ (b : Bool). cond b (Some (causes.LeftOut (type_number (type_of frame)))) None) (ap (λ (n : ℕ). is_none (type_at n)) (sym (spelled_type frame)) ∙ named))
@@ -198,7 +203,7 @@ whole_body : (bytes : List ℕ) (n : ℕ) → 4 ≤ n → n ≤ length bytes →
 whole_body bytes n least le =
     sym (drop-append-le 4 (take n bytes) (drop n bytes) (omega (arith, length-take n bytes))) ∙ ap (drop 4) (take-append-drop n bytes)
 
-spelled_by : (bytes : List ℕ) (t : FrameType) → IsBytes bytes → 4 ≤ size_in (word_of bytes) → size_in (word_of bytes) ≤ MOST → type_at (type_in (word_of bytes)) ≡ Some t
+spelled_by : (bytes : List ℕ) (t : FrameType) → IsBytes bytes → 4 ≤ size_in (word_of bytes) → size_in (word_of bytes) ≤ LARGEST_FRAME → type_at (type_in (word_of bytes)) ≡ Some t
     → length bytes ≡ frame_length (word_of bytes) → body_fault t (body_in bytes) (padding_in bytes) ≡ None → Spells (value t (body_in bytes)) bytes
 unfolding spelling
 spelled_by bytes t fits least most named whole none =

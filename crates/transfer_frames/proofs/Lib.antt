@@ -5,3 +5,5 @@ pub mod FrameLaws
 pub mod Decoded
 pub mod FrontLaws
 pub mod SmallLaws
+pub mod LineLemmas
+pub mod WordLemmas

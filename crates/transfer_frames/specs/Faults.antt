@@ -1,13 +1,15 @@
--- What is wrong with bytes that should be a frame: the causes 1 to 9, in the order in which they are tested.
+-- What is wrong with bytes that should be a frame: the causes 1 to 9, in the order in which they
+-- are tested.
 use Rattle.std.specs.Prelude.{ℕ, ◌+◌, ◌-◌, ◌/◌, ◌%◌, nat_lt, nat_le, ◌==◌, if◌then◌else◌, Bool, true, false, not, ◌&&◌, List, [], ◌∷◌, length, take, drop, Option, Some, None, is_none}
 use Rattle.std.specs.List.{list_any, list_all}
 use Rattle.wl_wire.specs.Wire.{cut_rest}
+use Rattle.transfer_frames.specs.declared.frame.TheConstants.{LARGEST_FRAME, LONGEST_TRANSFER}
 use Rattle.transfer_frames.specs.declared.cause.FrameCause.{FrameCause}
 use Rattle.transfer_frames.specs.declared.cause.FrameCause.TheVariants.{SizeSmall, SizeLarge, UnknownType, LeftOut, BodyLength, Padding, RidZero, FillRange, MessageCut}
 use Rattle.transfer_frames.specs.declared.kinds.FrameType.{FrameType}
 use Rattle.transfer_frames.specs.declared.kinds.FrameType.TheVariants.{Protocol, Inject, OpenFile, ExtendFile, Fill, OpenPipe, PipeTransfer, PipeShutR, PipeShutW, Ack, Restart, Close}
 use Rattle.transfer_frames.specs.Numbers.{word_of, words_of}
-use Rattle.transfer_frames.specs.Grammar.{type_at, padded, MOST}
+use Rattle.transfer_frames.specs.Grammar.{type_at, padded}
 
 -- the cause of the first test that is met
 abbrev pub first_of : List (Bool × FrameCause) → Option FrameCause
@@ -30,7 +32,7 @@ frame_length word = padded (size_in word)
 unfoldable pub word_fault : ℕ → Option FrameCause
 word_fault word = first_of (
     (nat_lt (size_in word) 4, SizeSmall) ∷
-    (nat_lt MOST (size_in word), SizeLarge) ∷
+    (nat_lt LARGEST_FRAME (size_in word), SizeLarge) ∷
     (nat_lt 18 (type_in word), UnknownType) ∷
     (is_none (type_at (type_in word)), LeftOut (type_in word)) ∷ [])
 
@@ -44,7 +46,7 @@ has_length OpenFile n = n == 8
 has_length ExtendFile n = n == 8
 has_length Fill n = nat_lt 12 n && ((n - 12) % 64 == 0)
 has_length OpenPipe n = n == 4
-has_length PipeTransfer n = nat_le 5 n && nat_le n 65540
+has_length PipeTransfer n = nat_le 5 n && nat_le n (4 + LONGEST_TRANSFER)
 has_length PipeShutR n = n == 4
 has_length PipeShutW n = n == 4
 has_length Ack n = n == 8
@@ -101,4 +103,6 @@ rest_fault (Some type) body padding = body_fault type body padding
 
 -- the first of the causes 1 to 9
 unfoldable pub first_fault : List ℕ → Option FrameCause
-first_fault bytes = or_else (word_fault (word_of bytes)) (rest_fault (type_at (type_in (word_of bytes))) (body_in bytes) (padding_in bytes))
+first_fault bytes =
+    or_else (word_fault (word_of bytes))
+    (rest_fault (type_at (type_in (word_of bytes))) (body_in bytes) (padding_in bytes))

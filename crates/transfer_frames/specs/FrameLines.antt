@@ -1,4 +1,5 @@
--- The line that shows a frame: its place in the stream, its name and its fields, one space between; the form is this project's own.
+-- The line that shows a frame: its place in the stream, its name and its fields, one space between;
+-- the form is this project's own.
 use Rattle.std.specs.Prelude.{ℕ, List, [], ◌∷◌, ◌++◌, map, codes, decimal}
 use Rattle.std.specs.Fmt.{signed_decimal}
 use Rattle.std.specs.List.{flat_map}
@@ -29,13 +30,15 @@ fields (frames.Protocol messages) = encode_lower messages ∷ []
 fields (frames.Inject rids) = map signed_decimal rids
 fields (frames.OpenFile rid size) = signed_decimal rid ∷ decimal size ∷ []
 fields (frames.ExtendFile rid size) = signed_decimal rid ∷ decimal size ∷ []
-fields (frames.Fill rid start end bytes) = signed_decimal rid ∷ decimal start ∷ decimal end ∷ encode_lower bytes ∷ []
+fields (frames.Fill rid start end bytes) =
+    signed_decimal rid ∷ decimal start ∷ decimal end ∷ encode_lower bytes ∷ []
 fields (frames.OpenPipe rid) = signed_decimal rid ∷ []
 fields (frames.PipeTransfer rid bytes) = signed_decimal rid ∷ encode_lower bytes ∷ []
 fields (frames.PipeShutR rid) = signed_decimal rid ∷ []
 fields (frames.PipeShutW rid) = signed_decimal rid ∷ []
 fields (frames.Ack count) = decimal count ∷ []
-fields (frames.Restart token connection received) = encode_lower token ∷ decimal connection ∷ decimal received ∷ []
+fields (frames.Restart token connection received) =
+    encode_lower token ∷ decimal connection ∷ decimal received ∷ []
 fields (frames.Close reason) = decimal reason ∷ []
 
 -- a space before each

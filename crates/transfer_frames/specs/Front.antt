@@ -18,7 +18,8 @@ value Protocol body = frames.Protocol body
 value Inject body = frames.Inject (map (cast_signed w32) (words_of body))
 value OpenFile body = frames.OpenFile (rid_of body) (word_of (drop 4 body))
 value ExtendFile body = frames.ExtendFile (rid_of body) (word_of (drop 4 body))
-value Fill body = frames.Fill (rid_of body) (word_of (drop 4 body)) (word_of (drop 8 body)) (drop 12 body)
+value Fill body =
+    frames.Fill (rid_of body) (word_of (drop 4 body)) (word_of (drop 8 body)) (drop 12 body)
 value OpenPipe body = frames.OpenPipe (rid_of body)
 value PipeTransfer body = frames.PipeTransfer (rid_of body) (drop 4 body)
 value PipeShutR body = frames.PipeShutR (rid_of body)
@@ -36,7 +37,8 @@ unfoldable pub frame_in : List ℕ → Option Frame
 frame_in bytes = value_of (type_at (type_in (word_of bytes))) (body_in bytes)
 
 -- the cause, or what is read where there is none
-abbrev pub unless : Option FrameCause → Result (Option Frame) FrameCause → Result (Option Frame) FrameCause
+abbrev pub unless
+    : Option FrameCause → Result (Option Frame) FrameCause → Result (Option Frame) FrameCause
 unless None read = read
 unless (Some cause) read = Err cause
 
@@ -68,14 +70,16 @@ frame_alone (Err fault) = Err fault
 
 -- the frame takes so many bytes of the front, and they are its spelling
 abbrev pub Takes : List ℕ → Frame → ℕ → Type 0
-Takes bytes frame count = IsFrame frame × (count ≤ length bytes) × (take count bytes ≡ spelling frame)
+Takes bytes frame count =
+    IsFrame frame × (count ≤ length bytes) × (take count bytes ≡ spelling frame)
 
 -- the bytes that an answer gives
 abbrev pub given : Result (Option Frame) DecodeFault → List ℕ
 given (Ok (Some frame)) = spelling frame
 given answer = []
 
--- what a reader answers: there is no fault and this is the frame, or it is this fault; memory is wanted for a frame alone
+-- what a reader answers: there is no fault and this is the frame, or it is this fault; memory is
+-- wanted for a frame alone
 abbrev pub Reads : Result Frame DecodeFault → Option FrameCause → Option Frame → Type 0
 Reads (Ok frame) fault read = (fault ≡ None) × (read ≡ Some frame)
 Reads (Err (faults.Frame cause)) fault read = fault ≡ Some cause

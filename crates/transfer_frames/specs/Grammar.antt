@@ -1,7 +1,10 @@
--- The grammar of the link's frames: which frames there are and the one spelling of each in bytes; it is this project's own, and the messages in a PROTOCOL frame are those of the Wayland wire format.
+-- The grammar of the link's frames: which frames there are and the one spelling of each in bytes;
+-- it is this project's own, and the messages in a PROTOCOL frame are those of the Wayland wire
+-- format.
 use Rattle.std.specs.Prelude.{◌≡◌, ℕ, ◌+◌, ◌-◌, ◌*◌, ◌/◌, ◌%◌, ◌<◌, ◌≤◌, ◌==◌, if◌then◌else◌, true, false, List, [], ◌++◌, length, replicate, Option, Some, None}
 use Rattle.std.specs.List.{flat_map, AllByRecursion}
 use Rattle.wl_wire.specs.Wire.{cut_rest}
+use Rattle.transfer_frames.specs.declared.frame.TheConstants.{LARGEST_FRAME, LONGEST_TRANSFER}
 use Rattle.transfer_frames.specs.declared.frame.Frame.{Frame}
 use Rattle.transfer_frames.specs.declared.frame.Frame.TheVariants.{Protocol, Inject, OpenFile, ExtendFile, Fill, OpenPipe, PipeTransfer, PipeShutR, PipeShutW, Ack, Restart, Close}
 use Rattle.transfer_frames.specs.declared.frame.FrameRole.{FrameRole}
@@ -72,6 +75,21 @@ body (Ack count) = long_bytes count
 body (Restart token connection received) = token ++ (word_bytes connection ++ long_bytes received)
 body (Close reason) = word_bytes reason
 
+-- how many bytes a body has, by its type
+abbrev pub body_length : Frame → ℕ
+body_length (Protocol messages) = length messages
+body_length (Inject rids) = 4 * length rids
+body_length (OpenFile rid size) = 8
+body_length (ExtendFile rid size) = 8
+body_length (Fill rid start end bytes) = 12 + length bytes
+body_length (OpenPipe rid) = 4
+body_length (PipeTransfer rid bytes) = 4 + length bytes
+body_length (PipeShutR rid) = 4
+body_length (PipeShutW rid) = 4
+body_length (Ack count) = 8
+body_length (Restart token connection received) = 28
+body_length (Close reason) = 4
+
 -- a size counts the first word and the body, not the padding
 abbrev pub size : Frame → ℕ
 size frame = 4 + length (body frame)
@@ -92,10 +110,6 @@ spelling frame = word_bytes (first_word frame) ++ (body frame ++ padding frame)
 
 -- ---- what is in the grammar
 
--- the greatest size
-abbrev pub MOST : ℕ
-MOST = 1048576
-
 -- whole Wayland messages, one after the other
 abbrev pub AreMessages : List ℕ → Type 0
 AreMessages bytes = cut_rest bytes ≡ []
@@ -112,17 +126,18 @@ HasFields (OpenFile rid size) = IsRid rid × IsWord size
 HasFields (ExtendFile rid size) = IsRid rid × IsWord size
 HasFields (Fill rid start end bytes) = IsRid rid × IsWord end × IsRange start end (length bytes)
 HasFields (OpenPipe rid) = IsRid rid
-HasFields (PipeTransfer rid bytes) = IsRid rid × (1 ≤ length bytes) × (length bytes ≤ 65536)
+HasFields (PipeTransfer rid bytes) = IsRid rid × (1 ≤ length bytes) × (length bytes ≤ LONGEST_TRANSFER)
 HasFields (PipeShutR rid) = IsRid rid
 HasFields (PipeShutW rid) = IsRid rid
 HasFields (Ack count) = IsLong count
-HasFields (Restart token connection received) = (length token ≡ 16) × IsWord connection × IsLong received
+HasFields (Restart token connection received) =
+    (length token ≡ 16) × IsWord connection × IsLong received
 HasFields (Close reason) = IsWord reason
 
 -- the frame is in the grammar
 pub record IsFrame (frame : Frame) : Type 0 where
   pub fields : HasFields frame
-  pub fits : size frame ≤ MOST
+  pub fits : size frame ≤ LARGEST_FRAME
 
 -- the bytes are the frame's spelling
 abbrev pub Spells : Frame → List ℕ → Type 0

@@ -1,4 +1,5 @@
--- The numbers in a frame: little-endian words of 32 and of 64 bits, and signed ones, as in the wire format of the Wayland protocol.
+-- The numbers in a frame: little-endian words of 32 and of 64 bits, and signed ones, as in the wire
+-- format of the Wayland protocol.
 use Rattle.std.specs.Prelude.{◌≢◌, ℕ, ◌^◌, ◌<◌, ℤ, pos, List, [], ◌∷◌, slice_index}
 use Rattle.std.specs.Int.{w32, w64, to_le_bytes, from_le_bytes, cast_signed, cast_unsigned}
 use Rattle.std.specs.Prelude.{FitsSigned}

@@ -1,13 +1,15 @@
-// Why a frame is refused.
+//! Why a frame is refused.
 
 ghost use Rattle.std.specs.Prelude.{◌≡◌};
 ghost use Rattle.transfer_frames.specs.Causes.{cause_number};
+ghost use Rattle.transfer_frames.specs.declared.cause.DecodeFault.TheVariants.{Frame, Memory};
 
+use std::alloc::AllocError;
 use thiserror::Error;
 use wl_wire::ObjectFault;
 
-/// Why bytes are no frame, or why a frame is refused: by its first word, by the whole frame, by what came
-/// before it on its connection, or by what it says.
+/// Why bytes are no frame, or why a frame is refused: by its first word, by the whole frame, by
+/// what came before it on its connection, or by what it says.
 #[derive(Clone, Copy, Debug, PartialEq, Eq)]
 pub enum FrameCause {
     /// The size is below 4, so that it doesn't even cover the first word.
@@ -118,4 +120,20 @@ pub enum DecodeFault {
     /// Memory ran out.
     #[error("out of memory")]
     Memory,
+}
+
+impl From<FrameCause> for DecodeFault {
+    ghost from_gives = { λ cause fault. fault ≡ Frame cause };
+
+    fn from(cause: FrameCause) -> DecodeFault {
+        DecodeFault::Frame(cause)
+    }
+}
+
+impl From<AllocError> for DecodeFault {
+    ghost from_gives = { λ _ fault. fault ≡ Memory };
+
+    fn from(_error: AllocError) -> DecodeFault {
+        DecodeFault::Memory
+    }
 }

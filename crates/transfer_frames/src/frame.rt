@@ -1,12 +1,19 @@
-// The frames, and the part that each has on its connection.
+//! The frames, and the part that each has on its connection.
 
 ghost use Rattle.std.specs.Prelude.{◌≡◌};
 ghost use Rattle.transfer_frames.specs.Grammar.{role};
 
+use std::alloc::AllocError;
 use wl_wire::{Bytes, HandleNumbers};
 
-/// A frame of the link. A rid is the number of a handle on the link: above 0 where the near side passed it
-/// first, below 0 where the far side did.
+/// The greatest size of a frame in bytes: its first word and its body.
+pub const LARGEST_FRAME: u32 = 1_048_576;
+
+/// The most bytes of a pipe that one frame has.
+pub const LONGEST_TRANSFER: usize = 65_536;
+
+/// A frame of the link. A rid is the number of a handle on the link: above 0 where the near side
+/// passed it first, below 0 where the far side did.
 #[derive(Debug, Drop)]
 pub enum Frame {
     /// One or more whole Wayland messages.
@@ -55,8 +62,8 @@ pub enum Frame {
     Ack {
         count: u64,
     },
-    /// The greeting of a connection: the session's token, the connection's number, and how many counted
-    /// frames were accepted before.
+    /// The greeting of a connection: the session's token, the connection's number, and how many
+    /// counted frames were accepted before.
     Restart {
         token: [u8; 16],
         connection: u32,
@@ -66,6 +73,58 @@ pub enum Frame {
     Close {
         reason: u32,
     },
+}
+
+impl Clone for Frame {
+    ghost is_clone = { λ frame copy. copy ≡ frame };
+
+    fn clone(&self) -> Result<Frame, AllocError> {
+        Ok(match self {
+            Frame::Protocol { messages } => Frame::Protocol {
+                messages: messages.clone()?,
+            },
+            Frame::Inject { rids } => Frame::Inject {
+                rids: rids.clone()?,
+            },
+            Frame::OpenFile { rid, size } => Frame::OpenFile {
+                rid: *rid,
+                size: *size,
+            },
+            Frame::ExtendFile { rid, size } => Frame::ExtendFile {
+                rid: *rid,
+                size: *size,
+            },
+            Frame::Fill {
+                rid,
+                start,
+                end,
+                bytes,
+            } => Frame::Fill {
+                rid: *rid,
+                start: *start,
+                end: *end,
+                bytes: bytes.clone()?,
+            },
+            Frame::OpenPipe { rid } => Frame::OpenPipe { rid: *rid },
+            Frame::PipeTransfer { rid, bytes } => Frame::PipeTransfer {
+                rid: *rid,
+                bytes: bytes.clone()?,
+            },
+            Frame::PipeShutR { rid } => Frame::PipeShutR { rid: *rid },
+            Frame::PipeShutW { rid } => Frame::PipeShutW { rid: *rid },
+            Frame::Ack { count } => Frame::Ack { count: *count },
+            Frame::Restart {
+                token,
+                connection,
+                received,
+            } => Frame::Restart {
+                token: *token,
+                connection: *connection,
+                received: *received,
+            },
+            Frame::Close { reason } => Frame::Close { reason: *reason },
+        })
+    }
 }
 
 /// What part a frame has on its connection.

@@ -1,4 +1,4 @@
-// The frame at the front of a stream.
+//! The frame at the front of a stream.
 
 ghost use Rattle.std.specs.Prelude.{◌≡◌, IfOk, IfSome};
 ghost use Rattle.transfer_frames.specs.Front.{front, Answers, frame_alone, Takes};
@@ -10,11 +10,12 @@ use crate::reading::decode;
 use crate::rules::type_of_word;
 use std::alloc::Global;
 
-/// The frame at the front of a stream and how many bytes it takes, its padding included; None where no whole
-/// frame stands there and its first word, if there, isn't at fault.
+/// The frame at the front of a stream and how many bytes it takes, its padding included; None where
+/// no whole frame stands there and its first word, if there, isn't at fault.
 ///
 /// # Errors
-/// `Frame` with the first fault at the front; `Memory` where a whole frame stands there and memory runs out.
+/// `Frame` with the first fault at the front; `Memory` where a whole frame stands there and memory
+/// runs out.
 #[tactic(auto, using(crate::proofs::FrontLaws::fronts))]
 pub fn first_frame(alloc: Global, bytes: &[u8]) -> Result<Option<(Frame, usize)>, DecodeFault>
     ensures exact { Answers (frame_alone result) (front bytes.now) }
@@ -24,18 +25,12 @@ pub fn first_frame(alloc: Global, bytes: &[u8]) -> Result<Option<(Frame, usize)>
         return Ok(None);
     }
     let word = word_at(bytes);
-    match type_of_word(word) {
-        Err(cause) => Err(DecodeFault::Frame(cause)),
-        Ok(_) => {
-            let length = ((word / 32) as usize + 3) / 4 * 4;
-            if bytes.len() < length {
-                return Ok(None);
-            }
-            let (whole, _) = bytes.split_at(length);
-            match decode(alloc, whole) {
-                Ok(frame) => Ok(Some((frame, length))),
-                Err(fault) => Err(fault),
-            }
-        }
+    type_of_word(word)?;
+    let length = ((word / 32) as usize + 3) / 4 * 4;
+    if bytes.len() < length {
+        return Ok(None);
     }
+    let (whole, _) = bytes.split_at(length);
+    let frame = decode(alloc, whole)?;
+    Ok(Some((frame, length)))
 }

@@ -1,9 +1,9 @@
-// The types of frames, by their names.
+//! The types of frames, by their names.
 
-ghost use Rattle.std.specs.Prelude.{◌≡◌};
+ghost use Rattle.std.specs.Prelude.{◌≡◌, ◌+◌, ◌*◌, ◌≤◌};
 ghost use Rattle.transfer_frames.specs.Grammar.{type_at, type_of, type_number};
 
-use crate::frame::Frame;
+use crate::frame::{Frame, LARGEST_FRAME};
 
 /// The type of a frame.
 #[derive(Clone, Copy, Debug, PartialEq, Eq)]
@@ -63,6 +63,16 @@ impl FrameType {
             FrameType::Restart => 17,
             FrameType::Close => 18,
         }
+    }
+}
+
+impl FrameType {
+    /// The first word of a frame of this type that has this size, its padding not counted.
+    pub(crate) fn first_word(self, size: u32) -> u32
+        requires { size ≤ LARGEST_FRAME }
+        ensures { result ≡ size * 32 + type_number self }
+    {
+        size * 32 + self.number()
     }
 }
 

@@ -1,4 +1,4 @@
-// Laws of the grammar: functions that do nothing, and whose contract is the law.
+//! Laws of the grammar: functions that do nothing, and whose contract is the law.
 
 ghost use Rattle.transfer_frames.specs.Laws.{SpelledIsRead, ReadIsSpelled, NoneBegins, OneRow, FrontOfFrame, FrameOfFront, FrontStays, PartWaits, SpellingLength, MessageFits};
 

@@ -1,4 +1,4 @@
-// The line that shows a frame.
+//! The line that shows a frame.
 
 ghost use Rattle.std.specs.Prelude.{◌≡◌, ◌++◌, ◌∷◌, [], List, map, decimal, OnOk, IfOk};
 ghost use Rattle.std.specs.Fmt.{signed_decimal};
@@ -54,11 +54,32 @@ fn put_rid(out: &mut Vec<u8>, rid: i32) -> Result<(), AllocError>
     put_field(out, buffer.format(rid).as_bytes())
 }
 
-fn put_hex(alloc: Global, out: &mut Vec<u8>, bytes: &[u8]) -> Result<(), AllocError>
+/// How many bytes are turned into digits at a time.
+const PIECE: usize = 128;
+
+/// Adds bytes in hexadecimal, by way of a small buffer.
+fn append_hex(out: &mut Vec<u8>, bytes: &[u8]) -> Result<(), AllocError>
+    ensures { OnOk result (out.new.items ≡ out.old.items ++ encode_lower bytes.now) }
+{
+    let mut digits = [0u8; 2 * PIECE];
+    let mut rest = bytes;
+    'pieces: while !rest.is_empty() {
+        let (piece, behind) = rest.split_at(rest.len().min(PIECE));
+        let text = &mut digits[..2 * piece.len()];
+        match hex::encode_to_slice(piece, text) {
+            Ok(()) => out.extend_from_slice(text)?,
+            Err(_) => unreachable!("there are two digits for each byte"),
+        }
+        rest = behind;
+    }
+    Ok(())
+}
+
+fn put_hex(out: &mut Vec<u8>, bytes: &[u8]) -> Result<(), AllocError>
     ensures { OnOk result (out.new.items ≡ out.old.items ++ spaced (encode_lower bytes.now ∷ [])) }
 {
-    let text = hex::encode(alloc, bytes)?;
-    put_field(out, text.as_bytes())
+    out.push(b' ')?;
+    append_hex(out, bytes)
 }
 
 fn put_rids(out: &mut Vec<u8>, rids: &[i32]) -> Result<(), AllocError>
@@ -71,60 +92,57 @@ fn put_rids(out: &mut Vec<u8>, rids: &[i32]) -> Result<(), AllocError>
 }
 
 fn put_rid_and_number(out: &mut Vec<u8>, rid: i32, number: u32) -> Result<(), AllocError>
-    ensures { OnOk result (out.new.items ≡ out.old.items ++ spaced (signed_decimal rid ∷ decimal number ∷ [])) }
+    ensures { OnOk result (out.new.items ≡ out.old.items
+        ++ spaced (signed_decimal rid ∷ decimal number ∷ [])) }
 {
     put_rid(out, rid)?;
     put_number(out, u64::from(number))
 }
 
-fn put_rid_and_hex(
-    alloc: Global,
-    out: &mut Vec<u8>,
-    rid: i32,
-    bytes: &[u8],
-) -> Result<(), AllocError>
-    ensures { OnOk result (out.new.items ≡ out.old.items ++ spaced (signed_decimal rid ∷ encode_lower bytes.now ∷ [])) }
+fn put_rid_and_hex(out: &mut Vec<u8>, rid: i32, bytes: &[u8]) -> Result<(), AllocError>
+    ensures { OnOk result (out.new.items ≡ out.old.items
+        ++ spaced (signed_decimal rid ∷ encode_lower bytes.now ∷ [])) }
 {
     put_rid(out, rid)?;
-    put_hex(alloc, out, bytes)
+    put_hex(out, bytes)
 }
 
 fn put_range(
-    alloc: Global,
     out: &mut Vec<u8>,
     rid: i32,
     start: u32,
     end: u32,
     bytes: &[u8],
 ) -> Result<(), AllocError>
-    ensures { OnOk result (out.new.items ≡ out.old.items ++ spaced (signed_decimal rid ∷ decimal start ∷ decimal end ∷ encode_lower bytes.now ∷ [])) }
+    ensures { OnOk result (out.new.items ≡ out.old.items
+        ++ spaced (signed_decimal rid ∷ decimal start ∷ decimal end ∷ encode_lower bytes.now ∷ [])) }
 {
     put_rid(out, rid)?;
     put_number(out, u64::from(start))?;
     put_number(out, u64::from(end))?;
-    put_hex(alloc, out, bytes)
+    put_hex(out, bytes)
 }
 
 fn put_greeting(
-    alloc: Global,
     out: &mut Vec<u8>,
     token: &[u8; 16],
     connection: u32,
     received: u64,
 ) -> Result<(), AllocError>
-    ensures { OnOk result (out.new.items ≡ out.old.items ++ spaced (encode_lower token.now ∷ decimal connection ∷ decimal received ∷ [])) }
+    ensures { OnOk result (out.new.items ≡ out.old.items
+        ++ spaced (encode_lower token.now ∷ decimal connection ∷ decimal received ∷ [])) }
 {
-    put_hex(alloc, out, token.as_slice())?;
+    put_hex(out, token.as_slice())?;
     put_number(out, u64::from(connection))?;
     put_number(out, received)
 }
 
 /// Adds a frame's fields, a space before each.
-fn put_fields(alloc: Global, out: &mut Vec<u8>, frame: &Frame) -> Result<(), AllocError>
+fn put_fields(out: &mut Vec<u8>, frame: &Frame) -> Result<(), AllocError>
     ensures { OnOk result (out.new.items ≡ out.old.items ++ spaced (fields frame.now)) }
 {
     match frame {
-        Frame::Protocol { messages } => put_hex(alloc, out, messages.as_slice()),
+        Frame::Protocol { messages } => put_hex(out, messages.as_slice()),
         Frame::Inject { rids } => put_rids(out, rids.as_slice()),
         Frame::OpenFile { rid, size } => put_rid_and_number(out, *rid, *size),
         Frame::ExtendFile { rid, size } => put_rid_and_number(out, *rid, *size),
@@ -133,9 +151,9 @@ fn put_fields(alloc: Global, out: &mut Vec<u8>, frame: &Frame) -> Result<(), All
             start,
             end,
             bytes,
-        } => put_range(alloc, out, *rid, *start, *end, bytes.as_slice()),
+        } => put_range(out, *rid, *start, *end, bytes.as_slice()),
         Frame::OpenPipe { rid } => put_rid(out, *rid),
-        Frame::PipeTransfer { rid, bytes } => put_rid_and_hex(alloc, out, *rid, bytes.as_slice()),
+        Frame::PipeTransfer { rid, bytes } => put_rid_and_hex(out, *rid, bytes.as_slice()),
         Frame::PipeShutR { rid } => put_rid(out, *rid),
         Frame::PipeShutW { rid } => put_rid(out, *rid),
         Frame::Ack { count } => put_number(out, *count),
@@ -143,22 +161,34 @@ fn put_fields(alloc: Global, out: &mut Vec<u8>, frame: &Frame) -> Result<(), All
             token,
             connection,
             received,
-        } => put_greeting(alloc, out, token, *connection, *received),
+        } => put_greeting(out, token, *connection, *received),
         Frame::Close { reason } => put_number(out, u64::from(*reason)),
     }
 }
 
-/// The line that shows a frame: its place in the stream in decimal, its name and its fields, one space between,
-/// without the byte that ends a line. Numbers are in decimal, bytes in lower-case hexadecimal.
+/// A text with the line that shows a frame behind it: its place in the stream in decimal, its name
+/// and its fields, one space between, without the byte that ends a line. Numbers are in decimal,
+/// bytes in lower-case hexadecimal.
+///
+/// # Errors
+/// Only where memory runs out; the text is dropped then.
+pub fn with_frame_line(text: Text, place: u64, frame: &Frame) -> Result<Text, AllocError>
+    ensures { IfOk result (λ it. it ≡ text ++ line place frame.now) }
+{
+    let mut out = text.into_vec();
+    let mut buffer = Buffer::new();
+    out.extend_from_slice(buffer.format(place).as_bytes())?;
+    put_field(&mut out, name_of(frame.frame_type()))?;
+    put_fields(&mut out, frame)?;
+    Ok(Text::from_vec(out))
+}
+
+/// The line that shows a frame, as `with_frame_line` has it.
 ///
 /// # Errors
 /// Only where memory runs out.
 pub fn frame_line(alloc: Global, place: u64, frame: &Frame) -> Result<Text, AllocError>
     ensures { IfOk result (λ text. text ≡ line place frame.now) }
 {
-    let mut buffer = Buffer::new();
-    let mut out = Vec::from_slice(alloc, buffer.format(place).as_bytes())?;
-    put_field(&mut out, name_of(frame.frame_type()))?;
-    put_fields(alloc, &mut out, frame)?;
-    Ok(Text::from_vec(out))
+    with_frame_line(Text::new(alloc), place, frame)
 }

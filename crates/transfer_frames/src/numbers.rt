@@ -1,9 +1,10 @@
-// Numbers in the bytes of a frame: reading them at the front, and writing them at the end.
+//! Numbers in the bytes of a frame: reading them at the front, and writing them at the end.
 
-ghost use Rattle.std.specs.Prelude.{◌≡◌, ◌≤◌, ◌++◌, length, OnOk};
+ghost use Rattle.std.specs.Prelude.{◌≡◌, ◌+◌, ◌≤◌, ◌++◌, length};
+ghost use Rattle.std.specs.Vec.{vec_len, vec_capacity};
 ghost use Rattle.transfer_frames.specs.Numbers.{word_of, long_of, rid_of, word_bytes, long_bytes, rid_bytes};
 
-use std::alloc::AllocError;
+use plain_lists::append_reserved;
 
 /// The word that stands at the front.
 #[tactic(auto, unfolding(crate::specs::Numbers::word_of))]
@@ -34,26 +35,35 @@ pub fn rid_at(bytes: &[u8]) -> i32
     word_at(bytes).cast_signed()
 }
 
-/// Adds a word at the end.
+/// Adds a word behind bytes that have the room for it.
 #[tactic(auto, unfolding(crate::specs::Numbers::word_bytes))]
-pub fn put_word(out: &mut Vec<u8>, number: u32) -> Result<(), AllocError>
-    ensures { OnOk result (out.new.items ≡ out.old.items ++ word_bytes number) }
+pub fn put_word(out: &mut Vec<u8>, number: u32)
+    requires { vec_len out.old + 4 ≤ vec_capacity out.old }
+    ensures items { out.new.items ≡ out.old.items ++ word_bytes number }
+    ensures len { vec_len out.new ≡ vec_len out.old + 4 }
+    ensures room { vec_capacity out.old ≤ vec_capacity out.new }
 {
-    out.extend_from_slice(&number.to_le_bytes())
+    append_reserved(out, &number.to_le_bytes());
 }
 
-/// Adds a number of eight bytes at the end.
+/// Adds a number of eight bytes behind bytes that have the room for it.
 #[tactic(auto, unfolding(crate::specs::Numbers::long_bytes))]
-pub fn put_long(out: &mut Vec<u8>, number: u64) -> Result<(), AllocError>
-    ensures { OnOk result (out.new.items ≡ out.old.items ++ long_bytes number) }
+pub fn put_long(out: &mut Vec<u8>, number: u64)
+    requires { vec_len out.old + 8 ≤ vec_capacity out.old }
+    ensures items { out.new.items ≡ out.old.items ++ long_bytes number }
+    ensures len { vec_len out.new ≡ vec_len out.old + 8 }
+    ensures room { vec_capacity out.old ≤ vec_capacity out.new }
 {
-    out.extend_from_slice(&number.to_le_bytes())
+    append_reserved(out, &number.to_le_bytes());
 }
 
-/// Adds a signed word at the end.
+/// Adds a signed word behind bytes that have the room for it.
 #[tactic(auto, unfolding(crate::specs::Numbers::rid_bytes))]
-pub fn put_rid(out: &mut Vec<u8>, rid: i32) -> Result<(), AllocError>
-    ensures { OnOk result (out.new.items ≡ out.old.items ++ rid_bytes rid) }
+pub fn put_rid(out: &mut Vec<u8>, rid: i32)
+    requires { vec_len out.old + 4 ≤ vec_capacity out.old }
+    ensures items { out.new.items ≡ out.old.items ++ rid_bytes rid }
+    ensures len { vec_len out.new ≡ vec_len out.old + 4 }
+    ensures room { vec_capacity out.old ≤ vec_capacity out.new }
 {
-    put_word(out, rid.cast_unsigned())
+    put_word(out, rid.cast_unsigned());
 }

@@ -1,4 +1,4 @@
-// Reading a frame from its bytes.
+//! Reading a frame from its bytes.
 
 ghost use Rattle.std.specs.Prelude.{◌≡◌, ◌≤◌, true, None, Some, length, map, IfOk, IsOk};
 ghost use Rattle.std.specs.Int.{w32, cast_signed};
@@ -21,9 +21,9 @@ fn rids_of(alloc: Global, body: &[u8]) -> Result<HandleNumbers, AllocError>
 {
     let mut rids = Vec::with_capacity(alloc, body.len() / 4)?;
     let mut rest = body;
-    'words: while let [a, b, c, d, after @ ..] = rest {
-        rids.push(word_at(&[*a, *b, *c, *d]).cast_signed())?;
-        rest = after;
+    'words: while rest.len() >= 4 {
+        rids.push(word_at(rest).cast_signed())?;
+        rest = rest.split_at(4).1;
     }
     Ok(HandleNumbers::from_vec(rids))
 }
@@ -125,15 +125,13 @@ fn checked(
     body: &[u8],
     padding: &[u8],
 ) -> Result<Frame, DecodeFault>
-    ensures reads { Reads result (body_fault frame_type body.now padding.now) (Some (value frame_type body.now)) }
+    ensures reads { Reads result (body_fault frame_type body.now padding.now)
+        (Some (value frame_type body.now)) }
     ensures small { IsSmall (Some frame_type) → TakesNoMemory result }
 {
     match fault_of_body(frame_type, body, padding) {
         Some(cause) => Err(DecodeFault::Frame(cause)),
-        None => match frame_of(alloc, frame_type, body) {
-            Ok(frame) => Ok(frame),
-            Err(_) => Err(DecodeFault::Memory),
-        },
+        None => Ok(frame_of(alloc, frame_type, body)?),
     }
 }
 
@@ -141,29 +139,27 @@ fn checked(
 #[tactic(auto, unfolding(crate::specs::Faults::first_fault, crate::specs::Front::frame_in))]
 fn read(alloc: Global, bytes: &[u8]) -> Result<Frame, DecodeFault>
     requires word { 4 ≤ length bytes.now }
-    requires whole { word_fault (word_of bytes.now) ≡ None → length bytes.now ≡ frame_length (word_of bytes.now) }
+    requires whole { word_fault (word_of bytes.now) ≡ None
+        → length bytes.now ≡ frame_length (word_of bytes.now) }
     ensures reads { Reads result (first_fault bytes.now) (frame_in bytes.now) }
     ensures small { IsSmall (type_at (type_in (word_of bytes.now))) → TakesNoMemory result }
 {
     let word = word_at(bytes);
-    match type_of_word(word) {
-        Err(cause) => Err(DecodeFault::Frame(cause)),
-        Ok(frame_type) => {
-            let (whole, padding) = bytes.split_at((word / 32) as usize);
-            let (_, body) = whole.split_at(4);
-            checked(alloc, frame_type, body, padding)
-        }
-    }
+    let frame_type = type_of_word(word)?;
+    let (whole, padding) = bytes.split_at((word / 32) as usize);
+    let (_, body) = whole.split_at(4);
+    checked(alloc, frame_type, body, padding)
 }
 
-/// The frame that the bytes spell. Only PROTOCOL, INJECT, FILL and PIPE_TRANSFER take memory: RESTART, ACK and CLOSE
-/// are read without.
+/// The frame that the bytes spell. Only PROTOCOL, INJECT, FILL and PIPE_TRANSFER take memory:
+/// RESTART, ACK and CLOSE are read without.
 ///
 /// # Errors
 /// `Frame` with the first fault of the bytes; `Memory` where they are a frame and memory runs out.
 pub fn decode(alloc: Global, bytes: &[u8]) -> Result<Frame, DecodeFault>
     requires word { 4 ≤ length bytes.now }
-    requires whole { word_fault (word_of bytes.now) ≡ None → length bytes.now ≡ frame_length (word_of bytes.now) }
+    requires whole { word_fault (word_of bytes.now) ≡ None
+        → length bytes.now ≡ frame_length (word_of bytes.now) }
 
     // What is read is spelled so, each byte of it.
     ensures found { IfOk result (λ frame. Spells frame bytes.now) }

@@ -1,4 +1,4 @@
-// The tests that a frame's bytes must pass, in their order.
+//! The tests that a frame's bytes must pass, in their order.
 
 ghost use Rattle.std.specs.Prelude.{◌≡◌, ◌≤◌, ◌==◌, ◌/◌, true, length, MatchResult, OnOk, IfNone, Some, None};
 ghost use Rattle.std.specs.List.{list_any, list_all};
@@ -7,25 +7,25 @@ ghost use Rattle.transfer_frames.specs.Grammar.{type_at};
 ghost use Rattle.transfer_frames.specs.Faults.{word_fault, type_in, has_length, has_zero_rid, has_range, has_messages, body_fault};
 
 use crate::cause::FrameCause;
+use crate::frame::{LARGEST_FRAME, LONGEST_TRANSFER};
 use crate::kinds::{FrameType, type_with};
 use crate::numbers::word_at;
 use wl_wire::all_messages;
 
-/// The greatest size of a frame.
-pub const MOST_SIZE: u32 = 1_048_576;
-
 /// The type that the first word names, or the first cause that the word shows.
 #[tactic(auto, unfolding(crate::specs::Faults::word_fault))]
 pub fn type_of_word(word: u32) -> Result<FrameType, FrameCause>
-    ensures exact { MatchResult result (λ type. (word_fault word ≡ None) × (type_at (type_in word) ≡ Some type)) (λ cause. word_fault word ≡ Some cause) }
-    ensures sized { OnOk result ((4 ≤ word / 32) × (word / 32 ≤ 1048576)) }
+    ensures exact { MatchResult result
+        (λ type. (word_fault word ≡ None) × (type_at (type_in word) ≡ Some type))
+        (λ cause. word_fault word ≡ Some cause) }
+    ensures sized { OnOk result ((4 ≤ word / 32) × (word / 32 ≤ LARGEST_FRAME)) }
 {
     let size = word / 32;
     let number = word % 32;
     if size < 4 {
         return Err(FrameCause::SizeSmall);
     }
-    if size > MOST_SIZE {
+    if size > LARGEST_FRAME {
         return Err(FrameCause::SizeLarge);
     }
     if number > 18 {
@@ -48,7 +48,7 @@ pub fn fits_length(frame_type: FrameType, length: usize) -> bool
         FrameType::ExtendFile => length == 8,
         FrameType::Fill => length > 12 && (length - 12) % 64 == 0,
         FrameType::OpenPipe => length == 4,
-        FrameType::PipeTransfer => length >= 5 && length <= 65_540,
+        FrameType::PipeTransfer => length >= 5 && length <= 4 + LONGEST_TRANSFER,
         FrameType::PipeShutR => length == 4,
         FrameType::PipeShutW => length == 4,
         FrameType::Ack => length == 8,
@@ -65,16 +65,15 @@ pub fn are_zeros(bytes: &[u8]) -> bool
 }
 
 /// Whether one of the words is 0, taken from the front.
-#[tactic(auto, unfolding(crate::specs::Numbers::word_of))]
 fn has_zero_word(bytes: &[u8]) -> bool
     ensures { result ≡ list_any (λ word. word == 0) (words_of bytes.now) }
 {
     let mut rest = bytes;
-    'words: while let [a, b, c, d, after @ ..] = rest {
-        if u32::from_le_bytes([*a, *b, *c, *d]) == 0 {
+    'words: while rest.len() >= 4 {
+        if word_at(rest) == 0 {
             return true;
         }
-        rest = after;
+        rest = rest.split_at(4).1;
     }
     false
 }

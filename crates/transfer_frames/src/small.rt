@@ -1,10 +1,11 @@
-// Writing the two frames that are made again on each connection, without memory.
+//! Writing the two frames that are made again on each connection, without memory.
 
 ghost use Rattle.std.specs.Prelude.{◌≡◌, ℕ, ◌≤◌, ◌+◌, ◌++◌, length, take, drop};
 ghost use Rattle.transfer_frames.specs.declared.frame.Frame.TheVariants.{Ack, Restart};
 ghost use Rattle.transfer_frames.specs.Grammar.{IsReply, spelling};
 
 use crate::frame::Frame;
+use crate::kinds::FrameType;
 
 /// Puts bytes into the buffer from this index on.
 fn put_at(out: &mut [u8; 64], at: usize, bytes: &[u8])
@@ -22,7 +23,7 @@ fn put_ack(out: &mut [u8; 64], count: u64) -> usize
     ensures bytes { take 12 out.new ≡ spelling (Ack count) }
     ensures rest { drop 12 out.new ≡ drop 12 out.old }
 {
-    put_at(out, 0, &(12u32 * 32 + 16).to_le_bytes());
+    put_at(out, 0, &FrameType::Ack.first_word(12).to_le_bytes());
     put_at(out, 4, &count.to_le_bytes());
     12
 }
@@ -35,15 +36,15 @@ fn put_restart(out: &mut [u8; 64], token: [u8; 16], connection: u32, received: u
     ensures bytes { take 32 out.new ≡ spelling (Restart token connection received) }
     ensures rest { drop 32 out.new ≡ drop 32 out.old }
 {
-    put_at(out, 0, &(32u32 * 32 + 17).to_le_bytes());
+    put_at(out, 0, &FrameType::Restart.first_word(32).to_le_bytes());
     put_at(out, 4, &token);
     put_at(out, 20, &connection.to_le_bytes());
     put_at(out, 24, &received.to_le_bytes());
     32
 }
 
-/// Writes RESTART or ACK at the front of the buffer and answers how many bytes that are, 32 or 12. The rest of the
-/// buffer stays as it was. Takes no memory.
+/// Writes RESTART or ACK at the front of the buffer and answers how many bytes that are, 32 or 12.
+/// The rest of the buffer stays as it was. Takes no memory.
 pub fn put_small(frame: &Frame, out: &mut [u8; 64]) -> usize
     requires { IsReply frame.now }
     ensures count { result ≡ length (spelling frame.now) }

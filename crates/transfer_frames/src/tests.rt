@@ -3,12 +3,14 @@ use std::alloc::Global;
 use std::test::*;
 use wl_wire::{Bytes, Text};
 
-/// The line and the bytes of the one frame that the bytes are.
+/// The line of the one frame that the bytes are, and its bytes as they are written once alone and once more behind.
 fn again(alloc: Global, bytes: &[u8]) -> Option<(Text, Bytes, usize)> {
     match first_frame(alloc, bytes) {
         Ok(Some((frame, length))) => {
-            let line = frame_line(alloc, 7, &frame).ok()?;
-            let spelled = encode(alloc, &frame).ok()?;
+            let copy = frame.clone().ok()?;
+            let line = frame_line(alloc, 7, &copy).ok()?;
+            let mut spelled = encode(alloc, &frame).ok()?;
+            append_frame(&mut spelled, &copy).ok()?;
             Some((line, spelled, length))
         }
         _ => None,
@@ -24,7 +26,7 @@ fn front_of(alloc: Global, bytes: &[u8]) -> Result<Option<usize>, DecodeFault> {
     }
 }
 
-// A frame of each type, and its line.
+/// A frame of each type, and its line.
 const ONE_OF_EACH: [(&str, &str); 12] = [
     (
         "000300000100000000000c00020000000200000000000800",
@@ -62,8 +64,11 @@ fn each_type(rt: HostRuntime) -> Result<(), Fail> {
             "the row is a frame",
         )?;
         assert_eq!(rt; shown.as_slice(), line.as_bytes());
-        assert_eq!(rt; spelled.as_slice(), bytes.as_slice());
         assert_eq!(rt; length, bytes.len());
+        assert!(rt; length <= spelled.len());
+        let (alone, behind) = spelled.as_slice().split_at(length);
+        assert_eq!(rt; alone, bytes.as_slice());
+        assert_eq!(rt; behind, bytes.as_slice());
     }
     Ok(())
 }

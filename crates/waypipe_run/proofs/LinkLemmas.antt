@@ -2,7 +2,8 @@
 use Rattle.std.proofs.Common.{◌≡◌, ℕ, ◌+◌, ◌-◌, ◌≤◌, Bool, true, false, cond, List, [], ◌∷◌, ◌++◌, length, take, drop, refl, sym, ap, ◌∙◌, subst, arith, length-append}
 use Rattle.std.proofs.lemmas.List.{take-append-drop}
 use Rattle.std.proofs.Math.Seq.{take-append-add}
-use Rattle.wp_outside.specs.Lines.{IsFront, Lane, Line, fresh_lane, fresh_line}
+use Rattle.wp_outside.specs.Lines.{Lane, Line, fresh_lane, fresh_line}
+use Rattle.plain_lists.specs.Fronts.{IsFront}
 use Rattle.wp_outside.specs.declared.kinds.Side.{Side}
 use Rattle.wp_outside.specs.declared.kinds.Side.TheVariants.{Near, Far}
 use Rattle.script_lang.specs.declared.steps.Step.{Step}
@@ -55,8 +56,8 @@ pulled_row Far steps pair (ends.Fault (Frame Far cause)) it = refused_row Far pa
 
 -- what one lane tells, where the connection was made and where it was not
 lane_pushed : (linked : Bool) (bytes : List ℕ) (pushed pulled : ℕ) → IsFront (cond linked (lane bytes pushed pulled) fresh_lane).pushed bytes
-lane_pushed true bytes pushed pulled = (drop pushed bytes, take-append-drop pushed bytes)
-lane_pushed false bytes pushed pulled = (bytes, refl)
+lane_pushed true bytes pushed pulled = record { rest = drop pushed bytes; is = take-append-drop pushed bytes }
+lane_pushed false bytes pushed pulled = record { rest = bytes; is = refl }
 
 no_bytes : (n : ℕ) (bytes : List ℕ) → n ≡ 0 → take n bytes ≡ []
 no_bytes n bytes none = ap (λ (k : ℕ). take k bytes) none

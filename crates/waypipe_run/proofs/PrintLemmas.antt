@@ -7,7 +7,8 @@ use Rattle.wl_wire.specs.ArgFaults.{args_fault}
 use Rattle.wl_wire.specs.SignatureForm.{SignatureForm}
 use Rattle.wl_wire.specs.Wire.{opcode_of}
 use Rattle.wl_wire.specs.declared.faults.ObjectFault.{ObjectFault}
-use Rattle.wl_tables.specs.Messages.{carried_by, form_of, handle_in, handle_kind, way_of}
+use Rattle.wl_tables.specs.Messages.{carried_by, form_of, handle_in, handle_kind}
+use Rattle.wl_tables.specs.Ways.{way_of}
 use Rattle.wl_tables.specs.Places.{MessageRow}
 use Rattle.wl_tables.specs.Table.{messages}
 use Rattle.wl_tables.specs.declared.interface.Interface.{Interface}
@@ -16,12 +17,13 @@ use Rattle.wl_tables.specs.declared.way.Way.TheVariants.{Request, Event}
 use Rattle.wl_objects.specs.Entries.{Tracked, first_objects}
 use Rattle.wl_objects.specs.ObjectLaws.{IsByTheTable}
 use Rattle.wl_objects.specs.Registry.{first_state}
-use Rattle.wl_objects.specs.Tracking.{is_event, Step, step, then_goes, track}
-use Rattle.wl_objects.proofs.Parts.{front-is-tracked}
-use Rattle.wl_objects.proofs.Rows.{passed-by-the-table}
-use Rattle.wl_objects.proofs.Shown.{state-is-tracked}
+use Rattle.wl_objects.specs.Tracking.{Admission, step, then_goes, track}
+use Rattle.wl_tables.specs.Ways.{is_event}
+use Rattle.wl_objects.proofs.Parts.{front_is_tracked}
+use Rattle.wl_objects.proofs.Rows.{passed_by_the_table}
+use Rattle.wl_objects.proofs.Shown.{state_is_tracked}
 use Rattle.wl_text.specs.Text.{CanPrint}
-use Rattle.wl_text.proofs.PrintLemmas.{way-again}
+use Rattle.wl_tables.proofs.Ways.{way_again}
 use Rattle.replay_model.specs.Halves.{if_way}
 use Rattle.replay_model.specs.Headline.{Passes}
 use Rattle.replay_model.specs.Passing.{carries_handle, objects_after, received_from, received_in, received_of, received_then, refusal_of}
@@ -53,14 +55,14 @@ row_kind : (row : Option MessageRow) (it : MessageRow) → row ≡ Some it → i
 row_kind row it same e = ap (λ (r : Option MessageRow). is_some (option_and_then (λ (m : MessageRow). handle_in m.places) r)) (sym same) ∙ e
 
 -- a message that passes and carries no handle can be printed
-printed : (way : Way) (message : List ℕ) (done : Step) → IsByTheTable way message done.passed → carries_handle way done.passed ≡ false → CanPrint done.passed.interface way message []
+printed : (way : Way) (message : List ℕ) (done : Admission) → IsByTheTable way message done.passed → carries_handle way done.passed ≡ false → CanPrint done.passed.interface way message []
 printed way message done is none =
     let found = form_ok (slice_get (messages done.passed.interface (way_of (is_event way))) (opcode_of message)) is.form is.row in
     let kind : is_some (handle_kind done.passed.interface (is_event way) (opcode_of message)) ≡ false =
     ap (λ (o : ℕ). is_some (handle_kind done.passed.interface (is_event way) o)) (sym is.opcode) ∙ none in
     record {
       row = found.0;
-      stands = ap (λ (w : Way). slice_get (messages done.passed.interface w) (opcode_of message)) (sym (way-again way)) ∙ found.1;
+      stands = ap (λ (w : Way). slice_get (messages done.passed.interface w) (opcode_of message)) (sym (way_again way)) ∙ found.1;
       good = ap (λ (f : SignatureForm). args_fault f.slots (drop 8 message)) found.2 ∙ is.good;
       named = ap length (sym (no_handle found.0 (row_kind _ found.0 found.1 kind)));
     }
@@ -71,19 +73,19 @@ no_cause : (b : Bool) → cond b (Some HandleMissing) None ≡ None → b ≡ fa
 no_cause false e = refl
 no_cause true e = absurd (cc)
 
-not_refused : (way : Way) (told : Result Step ObjectFault) (done : Step) → told ≡ Ok done → refusal_of way told ≡ None → carries_handle way done.passed ≡ false
+not_refused : (way : Way) (told : Result Admission ObjectFault) (done : Admission) → told ≡ Ok done → refusal_of way told ≡ None → carries_handle way done.passed ≡ false
 not_refused way told done same none = no_cause (carries_handle way done.passed) (ap (refusal_of way) (sym same) ∙ none)
 
 same_ok : {X : Type 0} (a b : X) (told : Result X ObjectFault) → told ≡ Ok a → told ≡ Ok b → a ≡ b
 same_ok a b told is other = cc
 
-goes_ok : (told : Result Step ObjectFault) (after : Tracked) → then_goes told (λ done. Ok done.objects) ≡ Ok after → (done : Step) × (told ≡ Ok done) × (done.objects ≡ after)
+goes_ok : (told : Result Admission ObjectFault) (after : Tracked) → then_goes told (λ done. Ok done.objects) ≡ Ok after → (done : Admission) × (told ≡ Ok done) × (done.objects ≡ after)
 goes_ok (Ok done) after e = (done, refl, same_ok done.objects after _ refl e)
 goes_ok (Err fault) after e = absurd (cc)
 
 -- the message at a place of an order passed, where the objects before it are these
 record At (objects : Tracked) (it : Way × List ℕ) (rest : List (Way × List ℕ)) : Type 0 where
-  done : Step
+  done : Admission
   steps : step it.0 objects it.1 ≡ Ok done
   no_handle : carries_handle it.0 done.passed ≡ false
 
@@ -93,14 +95,14 @@ AllAt objects [] = Unit {0}
 AllAt objects (it ∷ rest) = (at : At objects it rest) × AllAt at.done.objects rest
 
 front_objects : (front : List (Way × List ℕ)) (objects : Tracked) → track first_objects front ≡ Ok objects → objects_after front ≡ objects
-front_objects front objects tracked = state-is-tracked first_state objects front tracked
+front_objects front objects tracked = state_is_tracked first_state objects front tracked
 
 all_at : (back front : List (Way × List ℕ)) (objects : Tracked) → Passes (front ++ back) → track first_objects front ≡ Ok objects → AllAt objects back
 all_at [] front objects passes tracked = tt
 all_at (it ∷ rest) front objects passes tracked =
     let one : front ++ (it ∷ rest) ≡ (front ++ it ∷ []) ++ rest = sym (append_assoc front (it ∷ []) rest) in
-    let parts = front-is-tracked first_objects (objects_after (front ++ it ∷ rest)) (front ++ it ∷ []) rest (ap (track first_objects) (sym one) ∙ passes.tracked) in
-    let last = front-is-tracked first_objects parts.0 front (it ∷ []) parts.1 in
+    let parts = front_is_tracked first_objects (objects_after (front ++ it ∷ rest)) (front ++ it ∷ []) rest (ap (track first_objects) (sym one) ∙ passes.tracked) in
+    let last = front_is_tracked first_objects parts.0 front (it ∷ []) parts.1 in
     let same : last.0 ≡ objects = same_ok last.0 objects _ last.1 tracked in
     let goes : track objects (it ∷ []) ≡ Ok parts.0 = ap (λ (o : Tracked). track o (it ∷ [])) (sym same) ∙ last.2 in
     let stepped = goes_ok (step it.0 objects it.1) parts.0 goes in
@@ -120,8 +122,8 @@ from_prints : (way : Way) (order : List (Way × List ℕ)) (objects : Tracked) �
 from_prints way [] objects all = tt
 from_prints way (it ∷ rest) objects all =
     let at = all.0 in
-    subst (λ (told : Result Step ObjectFault). PrintsAll way (received_then told way it (λ next. received_from way next rest))) (sym at.steps)
-    (one_prints way at.done.passed.interface it (received_from way at.done.objects rest) (printed it.0 it.1 at.done (passed-by-the-table it.0 objects it.1 at.done at.steps) at.no_handle) (from_prints way rest at.done.objects all.1))
+    subst (λ (told : Result Admission ObjectFault). PrintsAll way (received_then told way it (λ next. received_from way next rest))) (sym at.steps)
+    (one_prints way at.done.passed.interface it (received_from way at.done.objects rest) (printed it.0 it.1 at.done (passed_by_the_table it.0 objects it.1 at.done at.steps) at.no_handle) (from_prints way rest at.done.objects all.1))
 
 -- all that is received of an order that passes can be printed
 pub received_prints : (way : Way) (order : List (Way × List ℕ)) → Passes order → PrintsAll way (received_in way order)

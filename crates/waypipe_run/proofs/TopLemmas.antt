@@ -14,7 +14,8 @@ use Rattle.script_lang.specs.declared.causes.ScriptCause.{ScriptCause}
 use Rattle.script_lang.specs.declared.causes.ScriptRead.{ScriptRead}
 use Rattle.script_lang.specs.declared.causes.ScriptRead.TheVariants as read
 use Rattle.script_lang.specs.declared.steps.Step.{Step}
-use Rattle.replay_model.specs.Halves.{Half, Pair, given_by, heard_way, of_way, own_way, taken_by}
+use Rattle.replay_model.specs.Halves.{Half, Pair, given_by, heard_way, of_way, taken_by}
+use Rattle.wl_tables.specs.Ways.{own_way}
 use Rattle.wl_tables.specs.declared.way.Way.{Way}
 use Rattle.replay_model.specs.RunLaws.{AllPass}
 use Rattle.replay_model.specs.Rows.{frames_of}

@@ -3,7 +3,8 @@ use Rattle.std.specs.Prelude.{◌≡◌, ◌≢◌, ℕ, if◌then◌else◌, Li
 use Rattle.transfer_frames.specs.declared.cause.FrameCause.{FrameCause}
 use Rattle.transfer_frames.specs.declared.cause.FrameCause.TheVariants.{PeerMessage, RidCount}
 use Rattle.wl_objects.specs.Registry.{first_state, visible}
-use Rattle.wp_outside.specs.Lines.{Line, IsFront, fresh_line}
+use Rattle.wp_outside.specs.Lines.{Line, fresh_line}
+use Rattle.plain_lists.specs.Fronts.{IsFront}
 use Rattle.wp_outside.specs.declared.kinds.Side.{Side}
 use Rattle.wp_outside.specs.declared.kinds.Side.TheVariants as side
 use Rattle.script_lang.specs.declared.steps.Step.{Step}

@@ -14,7 +14,7 @@ use wp_outside::{LineStore, MemorySink, MemorySource, Side};
 const USAGE: &str =
     "usage: waypipe replay [--text] [--long] or frames or trial N or session [--workers N] [--link memory or tcp] [--text] [--long]\n";
 
-// What a run over an input answers and writes, where the sink has so many places and the calls of these numbers fail.
+/// What a run over an input answers and writes, where the sink has so many places and the calls of these numbers fail.
 fn run(
     alloc: Global,
     words: &[String],
@@ -30,13 +30,13 @@ fn run(
     Ok((status, Vec::from_slice(alloc, sink.held())?))
 }
 
-// What a replay of a script answers and writes.
+/// What a replay of a script answers and writes.
 fn replay(alloc: Global, script: &[u8]) -> Result<(Status, Vec<u8>), AllocError> {
     let words = vec![in alloc; String::from_str(alloc, "replay")?]?;
     replay_by(alloc, words.as_slice(), script)
 }
 
-// The same, with messages as text.
+/// The same, with messages as text.
 fn replay_text(alloc: Global, script: &[u8]) -> Result<(Status, Vec<u8>), AllocError> {
     let words = vec![in alloc;
         String::from_str(alloc, "replay")?,
@@ -61,7 +61,7 @@ fn replay_by(
     )
 }
 
-// What the report says of one message that went through.
+/// What the report says of one message that went through.
 const ONE: &str =
     "connections 1\napplication sent 1 received 0\ncompositor sent 0 received 1\ngot compositor 0100000000000c0002000000\ndrained\n";
 
@@ -294,7 +294,7 @@ fn failing_in_mid_stream(rt: HostRuntime) -> Result<(), Fail> {
     Ok(())
 }
 
-// A comment of this many bytes.
+/// A comment of this many bytes.
 fn comment(alloc: Global, length: usize) -> Result<Vec<u8>, AllocError> {
     vec![in alloc; b'#'; length]
 }
@@ -330,7 +330,7 @@ fn limit_input(rt: HostRuntime) -> Result<(), Fail> {
     Ok(())
 }
 
-// Lines are counted before any of them is read.
+/// Lines are counted before any of them is read.
 #[test]
 fn limit_lines(rt: HostRuntime) -> Result<(), Fail> {
     let alloc = rt.alloc();

@@ -10,19 +10,19 @@ use Rattle.wl_wire.specs.declared.signature.Slot.{Slot}
 use Rattle.wl_wire.specs.Arguments.{IsArg, Spells}
 use Rattle.wl_objects.specs.Tracking.{uint_of}
 
-uint-four : (it : ArgKind) (null : Bool) (front : List ℕ) (value : ℕ) → IsArg it null front (arg.Uint value) → length front ≡ 4
-uint-four kind.Uint null front value h = h.four
-uint-four _ null front value h = absurd h
+uint_four : (it : ArgKind) (null : Bool) (front : List ℕ) (value : ℕ) → IsArg it null front (arg.Uint value) → length front ≡ 4
+uint_four kind.Uint null front value h = h.four
+uint_four _ null front value h = absurd h
 
-uint-there : (slots : List Slot) (bytes : List ℕ) (args : List Arg) → Spells slots bytes args → IsSome (uint_of args) → 4 ≤ length bytes
-uint-there [] bytes [] h some = absurd (false≢true some)
-uint-there [] bytes (it ∷ args) h some = absurd h
-uint-there (slot ∷ slots) bytes [] h some = absurd h
-uint-there (slot ∷ slots) bytes (arg.Uint value ∷ args) h some =
-    let four : length h.0 ≡ 4 = uint-four slot.kind slot.null h.0 value h.1.2 in
+uint_there : (slots : List Slot) (bytes : List ℕ) (args : List Arg) → Spells slots bytes args → IsSome (uint_of args) → 4 ≤ length bytes
+uint_there [] bytes [] h some = absurd (false≢true some)
+uint_there [] bytes (it ∷ args) h some = absurd h
+uint_there (slot ∷ slots) bytes [] h some = absurd h
+uint_there (slot ∷ slots) bytes (arg.Uint value ∷ args) h some =
+    let four : length h.0 ≡ 4 = uint_four slot.kind slot.null h.0 value h.1.2 in
     let long : length bytes ≡ length h.0 + length h.1.0 = rw h.1.1 (length-append h.0 h.1.0) in
     omega (arith, four, long)
-uint-there (slot ∷ slots) bytes (_ ∷ args) h some = absurd (false≢true some)
+uint_there (slot ∷ slots) bytes (_ ∷ args) h some = absurd (false≢true some)
 
-pub room-for-uint : (slots : List Slot) (message : List ℕ) (args : List Arg) → Spells slots (drop 8 message) args → IsSome (uint_of args) → 12 ≤ length message
-room-for-uint slots message args h some = omega (arith, uint-there slots (drop 8 message) args h some, length-drop 8 message)
+pub room_for_uint : (slots : List Slot) (message : List ℕ) (args : List Arg) → Spells slots (drop 8 message) args → IsSome (uint_of args) → 12 ≤ length message
+room_for_uint slots message args h some = omega (arith, uint_there slots (drop 8 message) args h some, length-drop 8 message)

@@ -1,5 +1,5 @@
 -- A message that passes is one of the table's, with good arguments.
-use Rattle.std.proofs.Common.{◌≡◌, ℕ, List, Option, Some, None, Result, Ok, Err, drop, refl, sym, ap, ◌∙◌}
+use Rattle.std.proofs.Common.{◌≡◌, ℕ, List, Option, Some, None, Result, Ok, Err, drop, refl, sym, ap, subst, ◌∙◌}
 use Rattle.wl_wire.specs.ArgFaults.{args_fault}
 use Rattle.wl_wire.specs.SignatureForm.{SignatureForm}
 use Rattle.wl_wire.specs.Wire.{object_of, opcode_of}
@@ -10,9 +10,10 @@ use Rattle.wl_tables.specs.Messages.{signature}
 use Rattle.wl_tables.specs.declared.interface.Interface.{Interface}
 use Rattle.wl_tables.specs.declared.way.Way.{Way}
 use Rattle.wl_wire.specs.ArgValues.{args_in}
-use Rattle.wl_objects.specs.Entries.{Tracked, addressed, with_deleted, with_destroyed, with_new}
+use Rattle.wl_objects.specs.Entries.{Tracked, addressed}
 use Rattle.wl_objects.specs.ObjectLaws.{IsByTheTable, PassedByTheTable}
-use Rattle.wl_objects.specs.Tracking.{deleted_of, found, is_event, made_by_message, read_by, read_row, reading, Step, then_goes}
+use Rattle.wl_objects.specs.Tracking.{followed, found, passed_as, read_by, read_row, reading, Admission, then_goes}
+use Rattle.wl_tables.specs.Ways.{is_event}
 use Rattle.wl_objects.specs.declared.passed.Passed.{Passed}
 use Rattle.wl_objects.specs.declared.reading.Reading.{Reading}
 
@@ -30,22 +31,13 @@ same_ok a b told is other = cc
 
 -- what a message is found to be by a row whose arguments are good
 read_ok : (interface : Interface) (opcode : ℕ) (bytes : List ℕ) (form : SignatureForm) (fault : Option WireFault) (it : Reading) → read_by interface opcode bytes form fault ≡ Ok it
-    → (fault ≡ None) × (it.passed.interface ≡ interface) × (it.passed.opcode ≡ opcode)
+    → (fault ≡ None) × (it.interface ≡ interface) × (it.opcode ≡ opcode)
 read_ok interface opcode bytes form None it e =
-    let same = same_ok (record { passed = record { interface = interface; opcode = opcode; args = args_in form.slots bytes }; destroys = form.destroys }) it _ refl e in
-    (refl, sym (ap (λ (r : Reading). r.passed.interface) same), sym (ap (λ (r : Reading). r.passed.opcode) same))
+    let same = same_ok (record { interface = interface; opcode = opcode; args = args_in form.slots bytes; destroys = form.destroys }) it _ refl e in
+    (refl, sym (ap (λ (r : Reading). r.interface) same), sym (ap (λ (r : Reading). r.opcode) same))
 read_ok interface opcode bytes form (Some fault) it e = absurd (cc)
 
--- the same of a step behind it
-with_passed : (way : Way) (message : List ℕ) (passed other : Passed) → passed ≡ other → IsByTheTable way message other → IsByTheTable way message passed
-with_passed way message passed other same is = record {
-  form = is.form;
-  row = ap (λ (p : Passed). signature p.interface (is_event way) (opcode_of message)) same ∙ is.row;
-  good = is.good;
-  opcode = ap (λ (p : Passed). p.opcode) same ∙ is.opcode;
-}
-
-row_ok : (interface : Interface) (way : Way) (message : List ℕ) (it : Reading) → read_row interface way message ≡ Ok it → IsByTheTable way message it.passed
+row_ok : (interface : Interface) (way : Way) (message : List ℕ) (it : Reading) → read_row interface way message ≡ Ok it → IsByTheTable way message (passed_as it)
 row_ok interface way message it e =
     let one = found_ok (signature interface (is_event way) (opcode_of message)) faults.UnknownOpcode (λ form. read_by interface (opcode_of message) (drop 8 message) form (args_fault form.slots (drop 8 message))) it e in
     let read = read_ok interface (opcode_of message) (drop 8 message) one.0 (args_fault one.0.slots (drop 8 message)) it one.2 in
@@ -57,19 +49,16 @@ row_ok interface way message it e =
     }
 
 -- what follows the reading of a message
-abbrev after_reading : Way → Tracked → List ℕ → Reading → Result Step ObjectFault
-after_reading way objects message it = then_goes (with_new way objects (made_by_message way it.passed)) (λ after. Ok (record {
-  passed = it.passed;
-  objects = with_deleted (deleted_of way it.passed) (with_destroyed it.destroys (object_of message) after);
-}))
+abbrev pub after_reading : Way → Tracked → List ℕ → Reading → Result Admission ObjectFault
+after_reading way objects message it = then_goes (followed way objects (object_of message) it) (λ after. Ok (record { passed = passed_as it; objects = after }))
 
-passed_as_read : (way : Way) (objects : Tracked) (message : List ℕ) (it : Reading) (done : Step) → after_reading way objects message it ≡ Ok done → done.passed ≡ it.passed
+passed_as_read : (way : Way) (objects : Tracked) (message : List ℕ) (it : Reading) (done : Admission) → after_reading way objects message it ≡ Ok done → passed_as it ≡ done.passed
 passed_as_read way objects message it done e =
-    let one = goes_ok (with_new way objects (made_by_message way it.passed)) _ done e in
-    sym (ap (λ (d : Step). d.passed) (same_ok _ done _ refl one.2))
+    let one = goes_ok (followed way objects (object_of message) it) _ done e in
+    ap (λ (d : Admission). d.passed) (same_ok _ done _ refl one.2)
 
-pub passed-by-the-table : PassedByTheTable
-passed-by-the-table way objects message done e =
+pub passed_by_the_table : PassedByTheTable
+passed_by_the_table way objects message done e =
     let one = goes_ok (reading way objects message) (after_reading way objects message) done e in
     let entry = found_ok (addressed way objects (object_of message)) faults.UnknownObject (λ entry. read_row entry.interface way message) one.0 one.1 in
-    with_passed way message done.passed one.0.passed (passed_as_read way objects message one.0 done one.2) (row_ok entry.0.interface way message one.0 entry.2)
+    subst (IsByTheTable way message) (passed_as_read way objects message one.0 done one.2) (row_ok entry.0.interface way message one.0 entry.2)

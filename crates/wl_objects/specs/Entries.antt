@@ -1,10 +1,15 @@
--- The objects of a Wayland connection as a list of entries by rising ids (the chapter "Protocol and Model of Operation" of the protocol's document, its section on creating objects): what an id stands for, and what one message does to an entry.
-use Rattle.std.specs.Prelude.{ℕ, nat_lt, nat_le, ◌&&◌, ◌||◌, not, if◌then◌else◌, List, [], ◌∷◌, length, Bool, true, false, Option, Some, None, option_map, option_and_then, is_some, Result, Ok, Err}
+-- The objects of a Wayland connection as a list of entries by rising ids (the chapter "Protocol and
+-- Model of Operation" of the protocol's document, its section on creating objects): what an id
+-- stands for, and what one message does to an entry.
+use Rattle.std.specs.Prelude.{ℕ, nat_lt, nat_le, ◌&&◌, ◌||◌, not, if◌then◌else◌, List, [], ◌∷◌}
+use Rattle.std.specs.Prelude.{length, Bool, true, false, Option, Some, None, option_map}
+use Rattle.std.specs.Prelude.{option_and_then, is_some, Result, Ok, Err}
 use Rattle.std.specs.Ordering.{nat_cmp}
 use Rattle.std.specs.BTreeMap.{insert_entry, is_at}
 use Rattle.std.specs.Map.{lookup, set_value, remove_entry}
 use Rattle.wl_wire.specs.declared.faults.ObjectFault.{ObjectFault}
-use Rattle.wl_wire.specs.declared.faults.ObjectFault.TheVariants.{IdInUse, IdRange, UnknownInterface, TooManyObjects}
+use Rattle.wl_wire.specs.declared.faults.ObjectFault.TheVariants.{IdInUse, IdRange}
+use Rattle.wl_wire.specs.declared.faults.ObjectFault.TheVariants.{UnknownInterface, TooManyObjects}
 use Rattle.wl_tables.specs.declared.interface.Interface.{Interface}
 use Rattle.wl_tables.specs.declared.interface.Interface.TheVariants.{WlDisplay, WlRegistry}
 use Rattle.wl_tables.specs.declared.way.Way.{Way}
@@ -43,7 +48,8 @@ may_go Event it = true
 
 -- the entry that a message is for
 abbrev pub addressed : Way → Tracked → ℕ → Option Entry
-addressed way objects id = option_and_then (λ it. if may_go way it then Some it else None) (entry_at objects id)
+addressed way objects id =
+    option_and_then (λ it. if may_go way it then Some it else None) (entry_at objects id)
 
 -- the ids that a client makes
 abbrev pub is_client_id : ℕ → Bool
@@ -98,7 +104,8 @@ with_destroyed true id objects = put_entry objects id (option_map dead (entry_at
 -- a client's id is free again
 abbrev pub with_deleted : Option ℕ → Tracked → Tracked
 with_deleted None objects = objects
-with_deleted (Some id) objects = if is_client_id id then remove_entry (is_at (nat_cmp id)) objects else objects
+with_deleted (Some id) objects =
+    if is_client_id id then remove_entry (is_at (nat_cmp id)) objects else objects
 
 -- whether a registry stands at an id
 abbrev pub is_wl_registry : Interface → Bool

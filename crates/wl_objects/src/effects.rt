@@ -1,18 +1,70 @@
-// What a message does to the objects.
+//! What a message does to the objects.
 
-ghost use Rattle.std.specs.Prelude.{◌≡◌};
-ghost use Rattle.wl_objects.specs.Tracking.{global_of, new_at, new_of, is_delete_id, uint_of, deleted_of, made_by_message};
+ghost use Rattle.std.specs.Prelude.{◌≡◌, map};
+ghost use Rattle.wl_wire.specs.ArgSights.{seen_arg};
+ghost use Rattle.wl_objects.specs.Tracking.{global_of, new_at, new_of, is_delete_id, uint_of};
+ghost use Rattle.wl_objects.specs.Tracking.{deleted_of, made_by_message};
 
 use crate::entry::NewObject;
-use crate::passed::Passed;
-use crate::reading::is_event;
+use crate::reading::Reading;
 use wl_tables::{Interface, Way, interface_of, max_version, new_interface};
-use wl_wire::Arg;
+use wl_wire::ArgView;
 
-// The opcode of the event `wl_display.delete_id`.
+/// The opcode of the event `wl_display.delete_id`.
 const DELETE_ID: u16 = 1;
 
-// The global of this name, of those that are shown.
+/// The new object that a message makes.
+pub(crate) fn made_by_message(way: Way, reading: &Reading) -> Option<NewObject>
+    ensures { result ≡ made_by_message way reading.now }
+{
+    let made = new_interface(reading.interface, way.is_event(), reading.opcode);
+    new_of(made, reading.args.as_slice())
+}
+
+/// The id that a message gives free.
+pub(crate) fn deleted_of(way: Way, reading: &Reading) -> Option<u32>
+    ensures { result ≡ deleted_of way reading.now }
+{
+    if is_delete_id(reading.interface, way, reading.opcode) {
+        uint_of(reading.args.as_slice())
+    } else {
+        None
+    }
+}
+
+/// The new object among arguments.
+fn new_of(made: Option<Interface>, args: &[ArgView]) -> Option<NewObject>
+    ensures { result ≡ new_of made (map seen_arg args.now) }
+{
+    for arg in args {
+        if let Some(new) = new_at(made, arg) {
+            return Some(new);
+        }
+    }
+    None
+}
+
+/// The new object of an argument.
+fn new_at(made: Option<Interface>, arg: &ArgView) -> Option<NewObject>
+    ensures { result ≡ new_at made (seen_arg arg.now) }
+{
+    match arg {
+        ArgView::NewId(id) => match made {
+            Some(interface) => Some(NewObject {
+                id: *id,
+                interface: Some(interface),
+            }),
+            None => None,
+        },
+        ArgView::Bind { interface, id, .. } => Some(NewObject {
+            id: *id,
+            interface: global_of(interface),
+        }),
+        _ => None,
+    }
+}
+
+/// The global of this name, of those that are shown.
 fn global_of(name: &[u8]) -> Option<Interface>
     ensures { result ≡ global_of name.now }
 {
@@ -25,47 +77,7 @@ fn global_of(name: &[u8]) -> Option<Interface>
     }
 }
 
-// The new object of an argument.
-fn new_at(made: Option<Interface>, arg: &Arg) -> Option<NewObject>
-    ensures { result ≡ new_at made arg.now }
-{
-    match arg {
-        Arg::NewId(id) => match made {
-            Some(interface) => Some(NewObject {
-                id: *id,
-                interface: Some(interface),
-            }),
-            None => None,
-        },
-        Arg::Bind { interface, id, .. } => Some(NewObject {
-            id: *id,
-            interface: global_of(interface.as_slice()),
-        }),
-        _ => None,
-    }
-}
-
-// The new object among arguments.
-fn new_of(made: Option<Interface>, args: &[Arg]) -> Option<NewObject>
-    ensures { result ≡ new_of made args.now }
-{
-    for arg in args {
-        if let Some(new) = new_at(made, arg) {
-            return Some(new);
-        }
-    }
-    None
-}
-
-// The new object that a message makes.
-pub(crate) fn made_by_message(way: Way, passed: &Passed) -> Option<NewObject>
-    ensures { result ≡ made_by_message way passed.now }
-{
-    let made = new_interface(passed.interface, is_event(way), passed.opcode);
-    new_of(made, passed.args.as_slice())
-}
-
-// Whether a message is `wl_display.delete_id`.
+/// Whether a message is `wl_display.delete_id`.
 fn is_delete_id(interface: Interface, way: Way, opcode: u16) -> bool
     ensures { result ≡ is_delete_id interface way opcode }
 {
@@ -75,23 +87,12 @@ fn is_delete_id(interface: Interface, way: Way, opcode: u16) -> bool
     }
 }
 
-// The unsigned number that stands first.
-fn uint_of(args: &[Arg]) -> Option<u32>
-    ensures { result ≡ uint_of args.now }
+/// The unsigned number that stands first.
+fn uint_of(args: &[ArgView]) -> Option<u32>
+    ensures { result ≡ uint_of (map seen_arg args.now) }
 {
     match args {
-        [Arg::Uint(value), ..] => Some(*value),
+        [ArgView::Uint(value), ..] => Some(*value),
         _ => None,
-    }
-}
-
-// The id that a message gives free.
-pub(crate) fn deleted_of(way: Way, passed: &Passed) -> Option<u32>
-    ensures { result ≡ deleted_of way passed.now }
-{
-    if is_delete_id(passed.interface, way, passed.opcode) {
-        uint_of(passed.args.as_slice())
-    } else {
-        None
     }
 }

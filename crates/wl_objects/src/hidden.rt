@@ -1,4 +1,4 @@
-// The globals that are not shown.
+//! The globals that are not shown.
 
 ghost use Rattle.std.specs.Prelude.{◌≡◌, [], OnOk, OnErr};
 ghost use Rattle.wl_objects.specs.Registry.{is_hidden, with_pair, without_pair};
@@ -7,7 +7,7 @@ use std::alloc::{AllocError, Global};
 use std::collections::BTreeSet;
 use std::marker::Model;
 
-// The pairs of a registry and the name of one of its globals that are not shown.
+/// The pairs of a registry and the name of one of its globals that are not shown.
 #[derive(Drop)]
 pub(crate) struct HiddenGlobals {
     pairs: BTreeSet<(u32, u32)>,
@@ -15,15 +15,15 @@ pub(crate) struct HiddenGlobals {
 
 impl Model for HiddenGlobals {
     ghost use Rattle.std.specs.Prelude.{List};
-    ghost use Rattle.wl_objects.specs.Registry.{Pair};
+    ghost use Rattle.wl_objects.specs.Registry.{RegistryGlobal};
 
-    ghost Value = { List Pair };
+    ghost Value = { List RegistryGlobal };
 
     ghost view = { λ hidden. hidden.pairs.keys };
 }
 
 impl HiddenGlobals {
-    // No pair. Takes no memory.
+    /// No pair. Takes no memory.
     pub(crate) fn new(alloc: Global) -> HiddenGlobals
         ensures { result ≡ [] }
     {
@@ -32,25 +32,23 @@ impl HiddenGlobals {
         }
     }
 
-    // Whether a pair is hidden.
+    /// Whether a pair is hidden.
     pub(crate) fn contains(&self, registry: u32, name: u32) -> bool
         ensures { result ≡ is_hidden self.now (registry, name) }
     {
         self.pairs.contains(&(registry, name))
     }
 
-    // Hides a pair.
+    /// Hides a pair.
     pub(crate) fn hide(&mut self, registry: u32, name: u32) -> Result<(), AllocError>
         ensures ok { OnOk result (self.new ≡ with_pair self.old (registry, name)) }
         ensures err { OnErr result (self.new ≡ self.old) }
     {
-        match self.pairs.insert((registry, name)) {
-            Ok(_) => Ok(()),
-            Err(_) => Err(AllocError),
-        }
+        let _ = self.pairs.insert((registry, name))?;
+        Ok(())
     }
 
-    // Shows a pair.
+    /// Shows a pair.
     pub(crate) fn show(&mut self, registry: u32, name: u32)
         ensures { self.new ≡ without_pair self.old (registry, name) }
     {

@@ -1,4 +1,5 @@
-//! The objects of a Wayland connection: what each message makes and destroys, and which globals are shown.
+//! The objects of a Wayland connection: what each message makes and destroys, and which globals are
+//! shown.
 #![tactic(auto)]
 
 mod effects;

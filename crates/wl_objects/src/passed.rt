@@ -1,5 +1,9 @@
-// What a message is found to be, or why it is refused.
+//! What a message is found to be, or why it is refused.
 
+ghost use Rattle.std.specs.Prelude.{◌≡◌};
+ghost use Rattle.wl_objects.specs.declared.passed.PassFault.TheVariants.{Object, Memory};
+
+use std::alloc::AllocError;
 use thiserror::Error;
 use wl_tables::Interface;
 use wl_wire::{ArgList, ObjectFault};
@@ -24,4 +28,20 @@ pub enum PassFault {
     /// Memory ran out; nothing was changed.
     #[error("out of memory")]
     Memory,
+}
+
+impl From<ObjectFault> for PassFault {
+    ghost from_gives = { λ cause fault. fault ≡ Object cause };
+
+    fn from(cause: ObjectFault) -> PassFault {
+        PassFault::Object(cause)
+    }
+}
+
+impl From<AllocError> for PassFault {
+    ghost from_gives = { λ _ fault. fault ≡ Memory };
+
+    fn from(_error: AllocError) -> PassFault {
+        PassFault::Memory
+    }
 }

@@ -1,4 +1,4 @@
-// Messages of both ways, as peers send them.
+//! Messages of both ways, as peers send them.
 
 ghost use Rattle.std.specs.Prelude.{◌<◌, length};
 
@@ -12,7 +12,7 @@ const UP: Way = Way::Request;
 
 const DOWN: Way = Way::Event;
 
-// The message of an object, an opcode and the bytes of arguments.
+/// The message of an object, an opcode and the bytes of arguments.
 fn message(alloc: Global, object: u32, opcode: u16, body: &[u8]) -> Result<Message, Fail>
     requires { length body.now < 1000 }
 {
@@ -27,7 +27,7 @@ fn message(alloc: Global, object: u32, opcode: u16, body: &[u8]) -> Result<Messa
     }
 }
 
-// Passes a message that is fine.
+/// Passes a message that is fine.
 fn send(
     alloc: Global,
     objects: &mut Objects,
@@ -51,7 +51,7 @@ fn send(
     }
 }
 
-// Passes a message that is refused with a cause.
+/// Passes a message that is refused with a cause.
 fn refuse(
     alloc: Global,
     objects: &mut Objects,
@@ -86,7 +86,7 @@ const BIND_SEAT: &[u8] = b"\x01\0\0\0\x08\0\0\0wl_seat\0\x07\0\0\0\x05\0\0\0";
 
 const BIND_LONGER_NAME: &[u8] = b"\x01\0\0\0\x09\0\0\0wl_seat\0\0\0\0\0\x07\0\0\0\x05\0\0\0";
 
-// A client that has a registry as 2 and a compositor as 3.
+/// A client that has a registry as 2 and a compositor as 3.
 fn client(alloc: Global) -> Result<Objects, Fail> {
     let mut objects = Objects::new(alloc)?;
     send(alloc, &mut objects, UP, 1, 1, GET_REGISTRY)?;
@@ -104,7 +104,24 @@ fn objects_are_made(rt: HostRuntime) -> Result<(), Fail> {
     Ok(())
 }
 
-// A destroyed id is free again only once it is deleted.
+/// A second tracker needs no arguments.
+#[test]
+fn objects_are_tracked_without_arguments(rt: HostRuntime) -> Result<(), Fail> {
+    let alloc = rt.alloc();
+    let mut objects = Objects::new(alloc)?;
+    let registry = message(alloc, 1, 1, GET_REGISTRY)?;
+    let compositor = message(alloc, 2, 0, BIND_COMPOSITOR)?;
+    assert!(rt; objects.track(UP, &registry) == Ok(Interface::WlDisplay));
+    assert!(rt; objects.track(UP, &compositor) == Ok(Interface::WlRegistry));
+    assert!(rt; objects.live(3) == Some(Interface::WlCompositor));
+    let again = PassFault::Object(ObjectFault::IdInUse);
+    assert!(rt; objects.track(UP, &compositor) == Err(again));
+    let opcode = PassFault::Object(ObjectFault::UnknownOpcode);
+    assert!(rt; objects.track(DOWN, &message(alloc, 3, 0, b"")?) == Err(opcode));
+    Ok(())
+}
+
+/// A destroyed id is free again only once it is deleted.
 #[test]
 fn id_reuse(rt: HostRuntime) -> Result<(), Fail> {
     let mut objects = client(rt.alloc())?;
@@ -126,7 +143,7 @@ fn id_reuse(rt: HostRuntime) -> Result<(), Fail> {
     Ok(())
 }
 
-// Events go on to a destroyed object, requests don't.
+/// Events go on to a destroyed object, requests don't.
 #[test]
 fn destroyed_objects(rt: HostRuntime) -> Result<(), Fail> {
     let mut objects = client(rt.alloc())?;
@@ -155,7 +172,7 @@ fn destroyed_objects(rt: HostRuntime) -> Result<(), Fail> {
     Ok(())
 }
 
-// Each fault of a message's bytes, before any fault of its ids.
+/// Each fault of a message's bytes, before any fault of its ids.
 #[test]
 fn bytes_at_fault(rt: HostRuntime) -> Result<(), Fail> {
     let mut objects = client(rt.alloc())?;
@@ -216,7 +233,7 @@ fn bytes_at_fault(rt: HostRuntime) -> Result<(), Fail> {
     Ok(())
 }
 
-// Ids at the edges of what a client makes.
+/// Ids at the edges of what a client makes.
 #[test]
 fn client_ids(rt: HostRuntime) -> Result<(), Fail> {
     let mut objects = client(rt.alloc())?;
@@ -252,7 +269,7 @@ fn client_ids(rt: HostRuntime) -> Result<(), Fail> {
     Ok(())
 }
 
-// What may be bound, and that a refused message changes nothing.
+/// What may be bound, and that a refused message changes nothing.
 #[test]
 fn bound_interfaces(rt: HostRuntime) -> Result<(), Fail> {
     let mut objects = client(rt.alloc())?;
@@ -291,7 +308,7 @@ fn bound_interfaces(rt: HostRuntime) -> Result<(), Fail> {
 
 const BIND_DEVICES: &[u8] = b"\x01\0\0\0\x17\0\0\0wl_data_device_manager\0\0\x03\0\0\0\x06\0\0\0";
 
-// A server's ids: their edge, and that one is free once its object is destroyed.
+/// A server's ids: their edge, and that one is free once its object is destroyed.
 #[test]
 fn server_ids(rt: HostRuntime) -> Result<(), Fail> {
     let mut objects = client(rt.alloc())?;
@@ -324,7 +341,7 @@ fn server_ids(rt: HostRuntime) -> Result<(), Fail> {
     Ok(())
 }
 
-// The display itself may be deleted, and made anew.
+/// The display itself may be deleted, and made anew.
 #[test]
 fn deleted_display(rt: HostRuntime) -> Result<(), Fail> {
     let mut objects = client(rt.alloc())?;

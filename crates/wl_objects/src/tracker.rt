@@ -1,24 +1,30 @@
-// The objects of a connection by their ids.
+//! The objects of a connection by their ids.
 
 ghost use Rattle.std.specs.Prelude.{◌≡◌, IfOk, OnErr, Some};
 ghost use Rattle.wl_objects.specs.Answering.{Leaves};
-ghost use Rattle.wl_objects.specs.Entries.{first_objects, entry_at, is_registry, live_at, addressed, is_client_id, is_in_range, is_in_use, has_room, with_known, with_new, with_destroyed, with_deleted};
+ghost use Rattle.wl_objects.specs.Tracking.{followed};
+ghost use Rattle.wl_objects.specs.Entries.{first_objects, entry_at, is_registry, live_at};
+ghost use Rattle.wl_objects.specs.Entries.{addressed, is_client_id, is_in_range, is_in_use};
+ghost use Rattle.wl_objects.specs.Entries.{has_room, with_known, with_new, with_destroyed};
+ghost use Rattle.wl_objects.specs.Entries.{with_deleted};
 
+use crate::effects::{deleted_of, made_by_message};
 use crate::entry::{Entry, NewObject};
 use crate::passed::PassFault;
+use crate::reading::Reading;
 use std::alloc::{AllocError, Global};
 use std::collections::BTreeMap;
 use std::marker::Model;
 use wl_tables::{Interface, Way};
 use wl_wire::ObjectFault;
 
-// How many entries there may be.
+/// How many entries there may be.
 const MOST_OBJECTS: usize = 65_536;
 
-// Server ids begin here.
+/// Server ids begin here.
 const FIRST_SERVER_ID: u32 = 0xff00_0000;
 
-// The objects of a connection by their ids, live and destroyed.
+/// The objects of a connection by their ids, live and destroyed.
 #[derive(Drop)]
 pub(crate) struct Tracker {
     entries: BTreeMap<u32, Entry>,
@@ -32,14 +38,14 @@ impl Model for Tracker {
     ghost view = { λ tracker. tracker.entries.entries };
 }
 
-// Whether a client makes this id.
+/// Whether a client makes this id.
 fn is_client_id(id: u32) -> bool
     ensures { result ≡ is_client_id id }
 {
     1 <= id && id < FIRST_SERVER_ID
 }
 
-// Whether the sender of a message may make this id.
+/// Whether the sender of a message may make this id.
 fn is_in_range(way: Way, id: u32) -> bool
     ensures { result ≡ is_in_range way id }
 {
@@ -49,7 +55,7 @@ fn is_in_range(way: Way, id: u32) -> bool
     }
 }
 
-// Whether what stands at an id keeps it from being made.
+/// Whether what stands at an id keeps it from being made.
 fn is_in_use(way: Way, entry: Option<Entry>) -> bool
     ensures { result ≡ is_in_use way entry }
 {
@@ -63,7 +69,7 @@ fn is_in_use(way: Way, entry: Option<Entry>) -> bool
 }
 
 impl Tracker {
-    // The display alone.
+    /// The display alone.
     pub(crate) fn new(alloc: Global) -> Result<Tracker, AllocError>
         ensures { IfOk result (λ it. it ≡ first_objects) }
     {
@@ -72,20 +78,18 @@ impl Tracker {
             interface: Interface::WlDisplay,
             live: true,
         };
-        match entries.insert(1, display) {
-            Ok(_) => Ok(Tracker { entries }),
-            Err(_) => Err(AllocError),
-        }
+        let _ = entries.insert(1, display)?;
+        Ok(Tracker { entries })
     }
 
-    // What stands at an id.
+    /// What stands at an id.
     pub(crate) fn entry(&self, id: u32) -> Option<Entry>
         ensures { result ≡ entry_at self.now id }
     {
         self.entries.get(&id).copied()
     }
 
-    // Whether a registry stands at an id.
+    /// Whether a registry stands at an id.
     pub(crate) fn is_registry(&self, id: u32) -> bool
         ensures { result ≡ is_registry (entry_at self.now id) }
     {
@@ -95,7 +99,7 @@ impl Tracker {
         }
     }
 
-    // The interface of the live object with an id.
+    /// The interface of the live object with an id.
     pub(crate) fn live(&self, id: u32) -> Option<Interface>
         ensures { result ≡ live_at self.now id }
     {
@@ -109,7 +113,7 @@ impl Tracker {
         }
     }
 
-    // What stands at an id, if a message may be for it.
+    /// What stands at an id, if a message may be for it.
     pub(crate) fn addressed(&self, way: Way, id: u32) -> Option<Entry>
         ensures { result ≡ addressed way self.now id }
     {
@@ -122,14 +126,14 @@ impl Tracker {
         }
     }
 
-    // Whether a new object may enter at an id.
+    /// Whether a new object may enter at an id.
     fn has_room(&self, id: u32) -> bool
         ensures { result ≡ has_room self.now id }
     {
         self.entries.contains_key(&id) || self.entries.len() < MOST_OBJECTS
     }
 
-    // Puts a live object at an id, where there is room.
+    /// Puts a live object at an id, where there is room.
     fn put_live(&mut self, id: u32, interface: Interface) -> Result<(), PassFault>
         ensures exact { Leaves result (with_known self.old id (Some interface)) self.new }
         ensures err { OnErr result (self.new ≡ self.old) }
@@ -147,7 +151,24 @@ impl Tracker {
         }
     }
 
-    // Takes in a new object.
+    /// Takes in what a message of an object says: its new object enters, its object is destroyed
+    /// where the table says so, and `delete_id` gives an id free.
+    pub(crate) fn follow(
+        &mut self,
+        way: Way,
+        object: u32,
+        reading: &Reading,
+    ) -> Result<(), PassFault>
+        ensures exact { Leaves result (followed way self.old object reading.now) self.new }
+        ensures err { OnErr result (self.new ≡ self.old) }
+    {
+        self.admit_made(way, made_by_message(way, reading))?;
+        self.destroy(reading.destroys, object);
+        self.delete(deleted_of(way, reading));
+        Ok(())
+    }
+
+    /// Takes in a new object.
     fn admit(&mut self, way: Way, new: NewObject) -> Result<(), PassFault>
         ensures exact { Leaves result (with_new way self.old (Some new)) self.new }
         ensures err { OnErr result (self.new ≡ self.old) }
@@ -164,8 +185,8 @@ impl Tracker {
         }
     }
 
-    // Takes in the new object of a message, if it makes one.
-    pub(crate) fn admit_made(&mut self, way: Way, new: Option<NewObject>) -> Result<(), PassFault>
+    /// Takes in the new object of a message, if it makes one.
+    fn admit_made(&mut self, way: Way, new: Option<NewObject>) -> Result<(), PassFault>
         ensures exact { Leaves result (with_new way self.old new) self.new }
         ensures err { OnErr result (self.new ≡ self.old) }
     {
@@ -175,8 +196,8 @@ impl Tracker {
         }
     }
 
-    // Marks the object of a message as destroyed, if the message says so.
-    pub(crate) fn destroy(&mut self, destroys: bool, id: u32)
+    /// Marks the object of a message as destroyed, if the message says so.
+    fn destroy(&mut self, destroys: bool, id: u32)
         ensures { self.new ≡ with_destroyed destroys id self.old }
     {
         if destroys {
@@ -186,8 +207,8 @@ impl Tracker {
         }
     }
 
-    // Gives a client's id free, if the message says so.
-    pub(crate) fn delete(&mut self, deleted: Option<u32>)
+    /// Gives a client's id free, if the message says so.
+    fn delete(&mut self, deleted: Option<u32>)
         ensures { self.new ≡ with_deleted deleted self.old }
     {
         if let Some(id) = deleted {

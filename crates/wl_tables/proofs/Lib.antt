@@ -1,2 +1,3 @@
 mod Naming
 mod Distinct
+pub mod Ways

@@ -1,8 +1,20 @@
--- The interfaces of wayland.xml's core and of the stable xdg-shell, the Wayland protocol's files: their names, and the greatest versions of the globals that are shown.
+-- The interfaces of wayland.xml's core and of the stable xdg-shell, the Wayland protocol's files:
+-- their names, and the greatest versions of the globals that are shown.
 use Rattle.std.specs.Prelude.{ℕ, List, [], ◌∷◌, find, Option, Some, None, codes}
 use Rattle.std.specs.Str.{bytes_eq}
 use Rattle.wl_tables.specs.declared.interface.Interface.{Interface}
-use Rattle.wl_tables.specs.declared.interface.Interface.TheVariants.{WlDisplay, WlRegistry, WlCallback, WlCompositor, WlShm, WlShmPool, WlBuffer, WlSurface, WlRegion, WlSeat, WlPointer, WlKeyboard, WlTouch, WlOutput, WlSubcompositor, WlSubsurface, WlDataDeviceManager, WlDataDevice, WlDataSource, WlDataOffer, XdgWmBase, XdgPositioner, XdgSurface, XdgToplevel, XdgPopup}
+use Rattle.wl_tables.specs.declared.interface.Interface.TheVariants.{WlDisplay, WlRegistry}
+use Rattle.wl_tables.specs.declared.interface.Interface.TheVariants.{WlCallback, WlCompositor}
+use Rattle.wl_tables.specs.declared.interface.Interface.TheVariants.{WlShm, WlShmPool, WlBuffer}
+use Rattle.wl_tables.specs.declared.interface.Interface.TheVariants.{WlSurface, WlRegion, WlSeat}
+use Rattle.wl_tables.specs.declared.interface.Interface.TheVariants.{WlPointer, WlKeyboard, WlTouch}
+use Rattle.wl_tables.specs.declared.interface.Interface.TheVariants.{WlOutput, WlSubcompositor}
+use Rattle.wl_tables.specs.declared.interface.Interface.TheVariants.{WlSubsurface}
+use Rattle.wl_tables.specs.declared.interface.Interface.TheVariants.{WlDataDeviceManager}
+use Rattle.wl_tables.specs.declared.interface.Interface.TheVariants.{WlDataDevice, WlDataSource}
+use Rattle.wl_tables.specs.declared.interface.Interface.TheVariants.{WlDataOffer, XdgWmBase}
+use Rattle.wl_tables.specs.declared.interface.Interface.TheVariants.{XdgPositioner, XdgSurface}
+use Rattle.wl_tables.specs.declared.interface.Interface.TheVariants.{XdgToplevel, XdgPopup}
 
 -- the name
 abbrev pub interface_name : Interface → List ℕ

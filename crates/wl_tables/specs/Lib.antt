@@ -4,3 +4,4 @@ pub mod Messages
 pub mod Places
 pub mod Rows
 pub mod Table
+pub mod Ways

@@ -1,5 +1,8 @@
--- What the Wayland protocol's table of messages says of a message that an interface, the way and the opcode name.
-use Rattle.std.specs.Prelude.{ℕ, List, map, filter_map, slice_get, Bool, true, false, Option, Some, None, option_map, option_and_then}
+-- What the Wayland protocol's table of messages says of a message that an interface, the way and
+-- the opcode name.
+use Rattle.std.specs.Prelude.{true, false}
+use Rattle.std.specs.Prelude.{ℕ, List, map, filter_map, slice_get, Bool, Option, Some, None}
+use Rattle.std.specs.Prelude.{option_map, option_and_then}
 use Rattle.std.specs.List.{position_from}
 use Rattle.std.specs.Str.{bytes_eq}
 use Rattle.wl_wire.specs.SignatureForm.{SignatureForm}
@@ -7,17 +10,11 @@ use Rattle.wl_wire.specs.declared.signature.Slot.{Slot}
 use Rattle.wl_wire.specs.declared.signature.ArgKind.TheVariants.{NewId, Handle}
 use Rattle.wp_outside.specs.declared.kinds.HandleKind.{HandleKind}
 use Rattle.wl_tables.specs.declared.interface.Interface.{Interface}
-use Rattle.wl_tables.specs.declared.way.Way.{Way}
-use Rattle.wl_tables.specs.declared.way.Way.TheVariants.{Request, Event}
 use Rattle.wl_tables.specs.declared.rows.Place.{Place}
 use Rattle.wl_tables.specs.declared.rows.Place.TheVariants.{Plain, OrNull, New, Carried}
 use Rattle.wl_tables.specs.Places.{MessageRow}
 use Rattle.wl_tables.specs.Table.{messages}
-
--- the way of events, or of requests
-abbrev pub way_of : Bool → Way
-way_of false = Request
-way_of true = Event
+use Rattle.wl_tables.specs.Ways.{way_of}
 
 -- the row of a message, if there is one
 abbrev pub row : Interface → Bool → ℕ → Option MessageRow
@@ -56,14 +53,17 @@ abbrev pub signature : Interface → Bool → ℕ → Option SignatureForm
 signature interface events opcode = option_map form_of (row interface events opcode)
 
 abbrev pub new_interface : Interface → Bool → ℕ → Option Interface
-new_interface interface events opcode = option_and_then (λ it. new_in it.places) (row interface events opcode)
+new_interface interface events opcode =
+    option_and_then (λ it. new_in it.places) (row interface events opcode)
 
 abbrev pub handle_kind : Interface → Bool → ℕ → Option HandleKind
-handle_kind interface events opcode = option_and_then (λ it. handle_in it.places) (row interface events opcode)
+handle_kind interface events opcode =
+    option_and_then (λ it. handle_in it.places) (row interface events opcode)
 
 abbrev pub message_name : Interface → Bool → ℕ → Option (List ℕ)
 message_name interface events opcode = option_map (λ it. it.name) (row interface events opcode)
 
 -- the place of the row with this name, to the last byte
 abbrev pub opcode_of : Interface → Bool → List ℕ → Option ℕ
-opcode_of interface events name = position_from (λ it. bytes_eq it.name name) 0 (messages interface (way_of events))
+opcode_of interface events name =
+    position_from (λ it. bytes_eq it.name name) 0 (messages interface (way_of events))

@@ -1,4 +1,6 @@
--- What a row of the Wayland protocol's table of messages says: the message's name, the places of its arguments, and whether it destroys its object (the `type="destructor"` of the protocol's files).
+-- What a row of the Wayland protocol's table of messages says: the message's name, the places of
+-- its arguments, and whether it destroys its object (the `type="destructor"` of the protocol's
+-- files).
 use Prim.Native.String.{String}
 use Rattle.std.specs.Prelude.{ℕ, List, Bool, true, false, codes}
 use Rattle.wl_wire.specs.declared.signature.ArgKind.TheVariants as kind

@@ -1,4 +1,5 @@
--- How the rows of the Wayland protocol's table of messages are kept: as a name and places behind references.
+-- How the rows of the Wayland protocol's table of messages are kept: as a name and places behind
+-- references.
 use Rattle.std.specs.Prelude.{length, nat_le, Bool, true, false}
 use Rattle.wl_tables.specs.declared.rows.Row.{Row}
 use Rattle.wl_tables.specs.declared.rows.Row.TheVariants.{Message, Destructor}

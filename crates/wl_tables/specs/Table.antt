@@ -1,11 +1,25 @@
--- The messages of wayland.xml's core and of the stable xdg-shell, the Wayland protocol's files: for each interface its requests and its events in the order of their opcodes.
+-- The messages of wayland.xml's core and of the stable xdg-shell, the Wayland protocol's files: for
+-- each interface its requests and its events in the order of their opcodes.
 use Rattle.std.specs.Prelude.{List, [], ◌∷◌}
 use Rattle.wl_tables.specs.declared.interface.Interface.{Interface}
-use Rattle.wl_tables.specs.declared.interface.Interface.TheVariants.{WlDisplay, WlRegistry, WlCallback, WlCompositor, WlShm, WlShmPool, WlBuffer, WlSurface, WlRegion, WlSeat, WlPointer, WlKeyboard, WlTouch, WlOutput, WlSubcompositor, WlSubsurface, WlDataDeviceManager, WlDataDevice, WlDataSource, WlDataOffer, XdgWmBase, XdgPositioner, XdgSurface, XdgToplevel, XdgPopup}
+use Rattle.wl_tables.specs.declared.interface.Interface.TheVariants.{WlDisplay, WlRegistry}
+use Rattle.wl_tables.specs.declared.interface.Interface.TheVariants.{WlCallback, WlCompositor}
+use Rattle.wl_tables.specs.declared.interface.Interface.TheVariants.{WlShm, WlShmPool, WlBuffer}
+use Rattle.wl_tables.specs.declared.interface.Interface.TheVariants.{WlSurface, WlRegion, WlSeat}
+use Rattle.wl_tables.specs.declared.interface.Interface.TheVariants.{WlPointer, WlKeyboard, WlTouch}
+use Rattle.wl_tables.specs.declared.interface.Interface.TheVariants.{WlOutput, WlSubcompositor}
+use Rattle.wl_tables.specs.declared.interface.Interface.TheVariants.{WlSubsurface}
+use Rattle.wl_tables.specs.declared.interface.Interface.TheVariants.{WlDataDeviceManager}
+use Rattle.wl_tables.specs.declared.interface.Interface.TheVariants.{WlDataDevice, WlDataSource}
+use Rattle.wl_tables.specs.declared.interface.Interface.TheVariants.{WlDataOffer, XdgWmBase}
+use Rattle.wl_tables.specs.declared.interface.Interface.TheVariants.{XdgPositioner, XdgSurface}
+use Rattle.wl_tables.specs.declared.interface.Interface.TheVariants.{XdgToplevel, XdgPopup}
 use Rattle.wl_tables.specs.declared.rows.Place.TheVariants.{New}
 use Rattle.wl_tables.specs.declared.way.Way.{Way}
 use Rattle.wl_tables.specs.declared.way.Way.TheVariants.{Request, Event}
-use Rattle.wl_tables.specs.Places.{MessageRow, message, destructor, int, uint, fixed, string, string_or_null, object, object_or_null, array, bound, file, pipe_end}
+use Rattle.wl_tables.specs.Places.{MessageRow, message, destructor, int, uint, fixed, string}
+use Rattle.wl_tables.specs.Places.{string_or_null, object, object_or_null, array, bound, file}
+use Rattle.wl_tables.specs.Places.{pipe_end}
 
 -- the rows of an interface, the opcode of the first being 0
 abbrev pub messages : Interface → Way → List MessageRow

@@ -1,4 +1,4 @@
-// The messages of the protocol's core, in the order of their opcodes.
+//! The messages of the protocol's core, in the order of their opcodes.
 
 use crate::interface::Interface::{
     WlBuffer, WlCallback, WlDataDevice, WlDataOffer, WlDataSource, WlKeyboard, WlPointer, WlRegion,

@@ -1,4 +1,4 @@
-// The interfaces and their names.
+//! The interfaces and their names.
 
 ghost use Rattle.std.specs.Prelude.{◌≡◌, find};
 ghost use Rattle.std.specs.Str.{bytes_eq};
@@ -59,7 +59,7 @@ pub enum Interface {
     XdgPopup,
 }
 
-// Each interface once.
+/// Each interface once.
 static INTERFACES: [Interface; 25] = [
     Interface::WlDisplay,
     Interface::WlRegistry,
@@ -121,7 +121,7 @@ pub fn interface_name(interface: Interface) -> &'static str
     }
 }
 
-// The first of some interfaces with this name.
+/// The first of some interfaces with this name.
 fn named_among(interfaces: &[Interface], name: &[u8]) -> Option<Interface>
     ensures { result ≡ find (λ it. bytes_eq (interface_name it) name.now) interfaces.now }
 {

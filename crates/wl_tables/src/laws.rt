@@ -1,4 +1,4 @@
-// Laws of the table: each function does nothing, and its clause is the law.
+//! Laws of the table: each function does nothing, and its clause is the law.
 
 ghost use Rattle.wl_tables.specs.Laws.{OpcodeTellsName, InterfaceTellsName};
 

@@ -1,5 +1,5 @@
-//! The interfaces and messages of the Wayland protocol that are carried: one table of the protocol's core and of the
-//! stable xdg-shell, and what it says of a message.
+//! The interfaces and messages of the Wayland protocol that are carried: one table of the
+//! protocol's core and of the stable xdg-shell, and what it says of a message.
 #![tactic(auto)]
 
 mod core_rows;

@@ -1,10 +1,11 @@
-// What the table says of a message.
+//! What the table says of a message.
 
 ghost use Rattle.std.specs.Prelude.{◌≡◌, ◌≤◌, length, option_map, IsTrue};
 ghost use Rattle.std.specs.List.{position_from};
 ghost use Rattle.std.specs.Str.{bytes_eq};
 ghost use Rattle.wl_tables.specs.Rows.{row_of, is_short};
-ghost use Rattle.wl_tables.specs.Messages.{form_of, new_in, handle_in, signature, new_interface, handle_kind, message_name, opcode_of};
+ghost use Rattle.wl_tables.specs.Messages.{form_of, new_in, handle_in, signature, new_interface};
+ghost use Rattle.wl_tables.specs.Messages.{handle_kind, message_name, opcode_of};
 
 use crate::interface::Interface;
 use crate::messages::{messages, row_at};
@@ -12,7 +13,7 @@ use crate::rows::{Place, Row};
 use wl_wire::Signature;
 use wp_outside::HandleKind;
 
-// The slots of a row's places.
+/// The slots of a row's places.
 fn signature_of(row: Row) -> Signature
     requires { IsTrue (is_short (row_of row)) }
     ensures { result ≡ form_of (row_of row) }
@@ -25,7 +26,7 @@ fn signature_of(row: Row) -> Signature
     signature
 }
 
-// The interface of the new object among places.
+/// The interface of the new object among places.
 fn new_in(places: &[Place]) -> Option<Interface>
     ensures { result ≡ new_in places.now }
 {
@@ -37,7 +38,7 @@ fn new_in(places: &[Place]) -> Option<Interface>
     None
 }
 
-// The kind of the handle among places.
+/// The kind of the handle among places.
 fn handle_in(places: &[Place]) -> Option<HandleKind>
     ensures { result ≡ handle_in places.now }
 {
@@ -49,7 +50,7 @@ fn handle_in(places: &[Place]) -> Option<HandleKind>
     None
 }
 
-// The place of the first row with this name.
+/// The place of the first row with this name.
 fn opcode_among(rows: &[Row], name: &[u8]) -> Option<u16>
     requires { length rows.now ≤ 16 }
     ensures { result ≡ position_from (λ it. bytes_eq (row_of it).name name.now) 0 rows.now }
@@ -64,8 +65,8 @@ fn opcode_among(rows: &[Row], name: &[u8]) -> Option<u16>
     None
 }
 
-/// The arguments of a message and whether it destroys its object, or none where the interface has no such message.
-/// `events` says whether the opcode is that of an event or of a request.
+/// The arguments of a message and whether it destroys its object, or none where the interface has
+/// no such message. `events` says whether the opcode is that of an event or of a request.
 pub fn signature(interface: Interface, events: bool, opcode: u16) -> Option<Signature>
     ensures { result ≡ signature interface events opcode }
 {
@@ -75,8 +76,8 @@ pub fn signature(interface: Interface, events: bool, opcode: u16) -> Option<Sign
     }
 }
 
-/// The interface of the object that a message makes, or none where there is no such message or it makes none of a
-/// fixed interface. `wl_registry.bind` is one that fixes none.
+/// The interface of the object that a message makes, or none where there is no such message or it
+/// makes none of a fixed interface. `wl_registry.bind` is one that fixes none.
 pub fn new_interface(interface: Interface, events: bool, opcode: u16) -> Option<Interface>
     ensures { result ≡ new_interface interface events opcode }
 {
@@ -86,7 +87,8 @@ pub fn new_interface(interface: Interface, events: bool, opcode: u16) -> Option<
     }
 }
 
-/// The kind of the handle that a message carries, or none where there is no such message or it carries none.
+/// The kind of the handle that a message carries, or none where there is no such message or it
+/// carries none.
 pub fn handle_kind(interface: Interface, events: bool, opcode: u16) -> Option<HandleKind>
     ensures { result ≡ handle_kind interface events opcode }
 {
@@ -106,7 +108,8 @@ pub fn message_name(interface: Interface, events: bool, opcode: u16) -> Option<&
     }
 }
 
-/// The opcode of the interface's request or event with exactly this name, or none where there is none.
+/// The opcode of the interface's request or event with exactly this name, or none where there is
+/// none.
 pub fn opcode_of(interface: Interface, events: bool, name: &[u8]) -> Option<u16>
     ensures { result ≡ opcode_of interface events name.now }
 {

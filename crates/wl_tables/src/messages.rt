@@ -1,11 +1,12 @@
-// The messages of each interface.
+//! The messages of each interface.
 
 ghost use Rattle.std.specs.Prelude.{◌≡◌, ◌≤◌, map, length, IsTrue, IfSome, option_map};
 ghost use Rattle.std.specs.List.{list_all};
 ghost use Rattle.wl_tables.specs.declared.way.Way.{Way};
 ghost use Rattle.wl_tables.specs.Table.{messages};
 ghost use Rattle.wl_tables.specs.Rows.{row_of, is_short};
-ghost use Rattle.wl_tables.specs.Messages.{way_of, row};
+ghost use Rattle.wl_tables.specs.Messages.{row};
+ghost use Rattle.wl_tables.specs.Ways.{way_of};
 
 use crate::core_rows::{
     WL_BUFFER_EVENTS, WL_BUFFER_REQUESTS, WL_CALLBACK_EVENTS, WL_COMPOSITOR_REQUESTS,
@@ -26,7 +27,7 @@ use crate::shell_rows::{
     XDG_WM_BASE_REQUESTS,
 };
 
-// The requests of an interface in the order of their opcodes.
+/// The requests of an interface in the order of their opcodes.
 fn requests_of(interface: Interface) -> &'static [Row]
     ensures rows { map row_of result.now ≡ messages interface Way.Request }
     ensures few { length result.now ≤ 16 }
@@ -61,7 +62,7 @@ fn requests_of(interface: Interface) -> &'static [Row]
     }
 }
 
-// The events of an interface in the order of their opcodes.
+/// The events of an interface in the order of their opcodes.
 fn events_of(interface: Interface) -> &'static [Row]
     ensures rows { map row_of result.now ≡ messages interface Way.Event }
     ensures few { length result.now ≤ 16 }
@@ -96,7 +97,7 @@ fn events_of(interface: Interface) -> &'static [Row]
     }
 }
 
-// The messages of an interface in the order of their opcodes.
+/// The messages of an interface in the order of their opcodes.
 pub(crate) fn messages(interface: Interface, events: bool) -> &'static [Row]
     ensures rows { map row_of result.now ≡ messages interface (way_of events) }
     ensures few { length result.now ≤ 16 }
@@ -109,7 +110,7 @@ pub(crate) fn messages(interface: Interface, events: bool) -> &'static [Row]
     }
 }
 
-// The row of a message, if there is one.
+/// The row of a message, if there is one.
 pub(crate) fn row_at(interface: Interface, events: bool, opcode: u16) -> Option<Row>
     ensures row { option_map row_of result ≡ row interface events opcode }
     ensures short { IfSome result (λ it. IsTrue (is_short (row_of it))) }

@@ -1,4 +1,4 @@
-// What the table of messages is made of.
+//! What the table of messages is made of.
 
 ghost use Rattle.std.specs.Prelude.{◌≡◌};
 ghost use Rattle.wl_tables.specs.Rows.{row_of};
@@ -8,25 +8,25 @@ use crate::interface::Interface;
 use wl_wire::{ArgKind, Slot};
 use wp_outside::HandleKind;
 
-// The place of one argument.
+/// The place of one argument.
 #[derive(Clone, Copy)]
 pub(crate) enum Place {
-    // An argument that the interface says no more of.
+    /// An argument that the interface says no more of.
     Plain(ArgKind),
-    // A string or an object that may be null.
+    /// A string or an object that may be null.
     OrNull(ArgKind),
-    // A new object of this interface.
+    /// A new object of this interface.
     New(Interface),
-    // A handle of this kind.
+    /// A handle of this kind.
     Carried(HandleKind),
 }
 
-// One message: its name and its arguments.
+/// One message: its name and its arguments.
 #[derive(Clone, Copy)]
 pub(crate) enum Row {
-    // One that leaves its object as it is.
+    /// One that leaves its object as it is.
     Message(&'static str, &'static [Place]),
-    // One that destroys its object.
+    /// One that destroys its object.
     Destructor(&'static str, &'static [Place]),
 }
 
@@ -45,7 +45,7 @@ pub(crate) const OBJECT: Place = Place::Plain(ArgKind::Object);
 pub(crate) const OBJECT_OR_NULL: Place = Place::OrNull(ArgKind::Object);
 
 pub(crate) const ARRAY: Place = Place::Plain(ArgKind::Array);
-// The untyped new object of `wl_registry.bind`.
+/// The untyped new object of `wl_registry.bind`.
 pub(crate) const BOUND: Place = Place::Plain(ArgKind::Bind);
 
 pub(crate) const FILE: Place = Place::Carried(HandleKind::File);
@@ -53,7 +53,7 @@ pub(crate) const FILE: Place = Place::Carried(HandleKind::File);
 pub(crate) const PIPE_END: Place = Place::Carried(HandleKind::PipeWrite);
 
 impl Row {
-    // The message's name.
+    /// The message's name.
     pub(crate) fn name(&self) -> &'static str
         ensures { result.now ≡ (row_of self.now).name }
     {
@@ -62,7 +62,7 @@ impl Row {
         }
     }
 
-    // The places of the arguments.
+    /// The places of the arguments.
     pub(crate) fn places(&self) -> &'static [Place]
         ensures { result.now ≡ (row_of self.now).places }
     {
@@ -71,7 +71,7 @@ impl Row {
         }
     }
 
-    // Whether the message destroys its object.
+    /// Whether the message destroys its object.
     pub(crate) fn destroys(&self) -> bool
         ensures { result ≡ (row_of self.now).destroys }
     {
@@ -83,7 +83,7 @@ impl Row {
 }
 
 impl Place {
-    // The interface of the new object.
+    /// The interface of the new object.
     pub(crate) fn made(&self) -> Option<Interface>
         ensures { result ≡ made_by self.now }
     {
@@ -93,7 +93,7 @@ impl Place {
         }
     }
 
-    // The kind of the handle.
+    /// The kind of the handle.
     pub(crate) fn carried(&self) -> Option<HandleKind>
         ensures { result ≡ carried_by self.now }
     {
@@ -103,7 +103,7 @@ impl Place {
         }
     }
 
-    // What a signature says of the place.
+    /// What a signature says of the place.
     pub(crate) fn slot(&self) -> Slot
         ensures { result ≡ slot_of self.now }
     {

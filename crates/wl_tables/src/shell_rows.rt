@@ -1,4 +1,4 @@
-// The messages of the stable xdg-shell, in the order of their opcodes.
+//! The messages of the stable xdg-shell, in the order of their opcodes.
 
 use crate::interface::Interface::{XdgPopup, XdgPositioner, XdgSurface, XdgToplevel};
 use crate::rows::Place::New;

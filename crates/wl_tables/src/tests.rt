@@ -1,4 +1,4 @@
-// The table against the protocol's files, row by row.
+//! The table against the protocol's files, row by row.
 
 mod core_cases;
 mod shell_cases;
@@ -12,9 +12,10 @@ use shell_cases::SHELL;
 use wl_wire::{ArgKind, Signature, Slot};
 use wp_outside::HandleKind;
 
-// A row: the interface, whether it is an event, the opcode, the name, a letter for each argument, whether the message
-// destroys its object, and the interface that it makes. Letters are the arguments' initials, with capitals where null
-// is allowed, `n` and `b` for new objects of a fixed interface and of any, `h` for a file and `p` for a pipe's end.
+/// A row: the interface, whether it is an event, the opcode, the name, a letter for each argument,
+/// whether the message destroys its object, and the interface that it makes. Letters are the
+/// arguments' initials, with capitals where null is allowed, `n` and `b` for new objects of a fixed
+/// interface and of any, `h` for a file and `p` for a pipe's end.
 struct Case(
     Interface,
     bool,
@@ -25,7 +26,7 @@ struct Case(
     Option<Interface>,
 );
 
-// The letter of an argument.
+/// The letter of an argument.
 fn letter(slot: Slot, kind: Option<HandleKind>) -> u8 {
     match (slot.kind, slot.null) {
         (ArgKind::Int, false) => b'i',
@@ -59,7 +60,7 @@ fn has_letters(signature: &Signature, kind: Option<HandleKind>, letters: &[u8]) 
     true
 }
 
-// Whether a letter of a handle stands there.
+/// Whether a letter of a handle stands there.
 fn carries(letters: &[u8]) -> bool {
     for byte in letters {
         if *byte == b'h' || *byte == b'p' {
@@ -97,7 +98,7 @@ fn shell_rows_are_listed(rt: HostRuntime) {
     }
 }
 
-// Whether there is nothing at an opcode.
+/// Whether there is nothing at an opcode.
 fn is_absent(interface: Interface, events: bool, opcode: u16) -> bool {
     signature(interface, events, opcode).is_none()
         && new_interface(interface, events, opcode).is_none()
@@ -105,7 +106,8 @@ fn is_absent(interface: Interface, events: bool, opcode: u16) -> bool {
         && message_name(interface, events, opcode).is_none()
 }
 
-// The interfaces with how many requests and events each has, and its greatest version where it is a global.
+/// The interfaces with how many requests and events each has, and its greatest version where it is
+/// a global.
 static INTERFACES: [(&str, Interface, u16, u16, Option<u32>); 25] = [
     ("wl_display", Interface::WlDisplay, 2, 2, None),
     ("wl_registry", Interface::WlRegistry, 1, 2, None),

@@ -14,15 +14,15 @@ use Rattle.std.specs.Str.{bytes_eq}
 use Rattle.std.specs.Str.Parse.{AllDigits, digits_value}
 use Rattle.wl_text.specs.Front.{◌>>=◌, behind}
 use Rattle.wl_text.specs.Decimals.{word_of, number_at, negative, positive, signed_from, signed_at}
-use Rattle.wl_text.proofs.FrontLaws.{if-some, then-some, behind-sound, behind-complete, behind-other}
+use Rattle.wl_text.proofs.FrontLaws.{if_some, then_some, behind_sound, behind_complete, behind_other}
 
-pub number-sound : (text rest : List ℕ) (number : ℕ) → number_at text ≡ Some (number, rest) → (text ≡ decimal number ++ rest) × (number < 2 ^ 32)
+pub number_sound : (text rest : List ℕ) (number : ℕ) → number_at text ≡ Some (number, rest) → (text ≡ decimal number ++ rest) × (number < 2 ^ 32)
 unfolding number_at
-number-sound text rest number told =
+number_sound text rest number told =
     let digits : List ℕ = take_while is_ascii_digit text in
-    let first = then-some (word_of digits) _ (number, rest) told in
-    let word = if-some (nat_lt (digits_value 10 digits) (2 ^ 32)) (digits_value 10 digits) first.0 first.1 in
-    let written = if-some (bytes_eq (decimal first.0) digits) (first.0, drop (length digits) text) (number, rest) first.2 in
+    let first = then_some (word_of digits) _ (number, rest) told in
+    let word = if_some (nat_lt (digits_value 10 digits) (2 ^ 32)) (digits_value 10 digits) first.0 first.1 in
+    let written = if_some (bytes_eq (decimal first.0) digits) (first.0, drop (length digits) text) (number, rest) first.2 in
     let same : decimal first.0 ≡ digits = (bytes_eq-Decides (decimal first.0) digits).0 written.0 in
     let is : first.0 ≡ number = ap (λ it. it.0) written.1 in
     let behind : drop (length digits) text ≡ rest = ap (λ it. it.1) written.1 in
@@ -35,89 +35,89 @@ number-sound text rest number told =
 abbrev pub NoDigit : List ℕ → Type 0
 NoDigit text = prefix_len is_ascii_digit text ≡ 0
 
-digits-len : (digits rest : List ℕ) → AllDigits 10 digits → NoDigit rest → prefix_len is_ascii_digit (digits ++ rest) ≡ length digits
-digits-len [] rest are none = none
-digits-len (byte ∷ digits) rest are none =
+digits_len : (digits rest : List ℕ) → AllDigits 10 digits → NoDigit rest → prefix_len is_ascii_digit (digits ++ rest) ≡ length digits
+digits_len [] rest are none = none
+digits_len (byte ∷ digits) rest are none =
     let range = digit_from_value byte are.0 in
     let is : is_ascii_digit byte ≡ true = grind (arith, nat_tests) in
-    let more = digits-len digits rest are.1 none in
+    let more = digits_len digits rest are.1 none in
     rw is (omega (arith, more))
 
-digits-first : (digits rest : List ℕ) → AllDigits 10 digits → NoDigit rest → take_while is_ascii_digit (digits ++ rest) ≡ digits
-digits-first digits rest are none = take_at digits rest (prefix_len is_ascii_digit (digits ++ rest)) (sym (digits-len digits rest are none))
+digits_first : (digits rest : List ℕ) → AllDigits 10 digits → NoDigit rest → take_while is_ascii_digit (digits ++ rest) ≡ digits
+digits_first digits rest are none = take_at digits rest (prefix_len is_ascii_digit (digits ++ rest)) (sym (digits_len digits rest are none))
 
-pub number-complete : (number : ℕ) (rest : List ℕ) → number < 2 ^ 32 → NoDigit rest → number_at (decimal number ++ rest) ≡ Some (number, rest)
+pub number_complete : (number : ℕ) (rest : List ℕ) → number < 2 ^ 32 → NoDigit rest → number_at (decimal number ++ rest) ≡ Some (number, rest)
 unfolding number_at
-number-complete number rest small none =
+number_complete number rest small none =
     let numeral = decimal_is_IsNumeral number (omega arith) in
-    let digits : take_while is_ascii_digit (decimal number ++ rest) ≡ decimal number = digits-first (decimal number) rest numeral.0.1 none in
+    let digits : take_while is_ascii_digit (decimal number ++ rest) ≡ decimal number = digits_first (decimal number) rest numeral.0.1 none in
     let written : bytes_eq (decimal number) (decimal number) ≡ true = (bytes_eq-Decides (decimal number) (decimal number)).1 refl in
     let fits : nat_lt number (2 ^ 32) ≡ true = grind (arith, nat_tests) in
     rw (digits, numeral.1, fits, written, drop_at (decimal number) rest (length (decimal number)) refl)
 
 -- a number behind a sign
-negative-text : (size : ℕ) → 0 < size → signed_decimal (neg_ℤ (pos size)) ≡ codes "-" ++ decimal size
-negative-text zero some = absurd (omega arith)
-negative-text (suc size) some = refl
+negative_text : (size : ℕ) → 0 < size → signed_decimal (neg_ℤ (pos size)) ≡ codes "-" ++ decimal size
+negative_text zero some = absurd (omega arith)
+negative_text (suc size) some = refl
 
-negative-fits : (size : ℕ) → 0 < size → size ≤ 2 ^ 31 → FitsSigned w32 (neg_ℤ (pos size))
-negative-fits zero some small = absurd (omega arith)
-negative-fits (suc size) some small = record { sfits = omega arith }
+negative_fits : (size : ℕ) → 0 < size → size ≤ 2 ^ 31 → FitsSigned w32 (neg_ℤ (pos size))
+negative_fits zero some small = absurd (omega arith)
+negative_fits (suc size) some small = record { sfits = omega arith }
 
 -- the readers of a number behind a sign and of one without
-negative-sound : (text rest : List ℕ) (number : ℤ) → (number_at text >>= negative) ≡ Some (number, rest) → (codes "-" ++ text ≡ signed_decimal number ++ rest) × FitsSigned w32 number
-negative-sound text rest number told =
-    let first = then-some (number_at text) negative (number, rest) told in
+negative_sound : (text rest : List ℕ) (number : ℤ) → (number_at text >>= negative) ≡ Some (number, rest) → (codes "-" ++ text ≡ signed_decimal number ++ rest) × FitsSigned w32 number
+negative_sound text rest number told =
+    let first = then_some (number_at text) negative (number, rest) told in
     let size : ℕ = first.0.0 in
     let after : List ℕ = first.0.1 in
-    let chosen = if-some (nat_lt 0 size && nat_le size (2 ^ 31)) (neg_ℤ (pos size), after) (number, rest) first.2 in
+    let chosen = if_some (nat_lt 0 size && nat_le size (2 ^ 31)) (neg_ℤ (pos size), after) (number, rest) first.2 in
     let parts = and_parts (nat_lt 0 size) (nat_le size (2 ^ 31)) chosen.0 in
     let some : 0 < size = ltb-true 0 size parts.0 in
     let small : size ≤ 2 ^ 31 = leb-true size (2 ^ 31) parts.1 in
     let is : neg_ℤ (pos size) ≡ number = ap (λ it. it.0) chosen.1 in
     let behind : after ≡ rest = ap (λ it. it.1) chosen.1 in
-    let read = number-sound text after size first.1 in (
-      ap (λ it. codes "-" ++ it) read.0 ∙ ap (λ it. it ++ after) (sym (negative-text size some)) ∙ ap (λ it. signed_decimal it ++ after) is ∙ ap (λ it. signed_decimal number ++ it) behind,
-      subst (λ it. FitsSigned w32 it) is (negative-fits size some small),
+    let read = number_sound text after size first.1 in (
+      ap (λ it. codes "-" ++ it) read.0 ∙ ap (λ it. it ++ after) (sym (negative_text size some)) ∙ ap (λ it. signed_decimal it ++ after) is ∙ ap (λ it. signed_decimal number ++ it) behind,
+      subst (λ it. FitsSigned w32 it) is (negative_fits size some small),
     )
 
-positive-sound : (text rest : List ℕ) (number : ℤ) → (number_at text >>= positive) ≡ Some (number, rest) → (text ≡ signed_decimal number ++ rest) × FitsSigned w32 number
-positive-sound text rest number told =
-    let first = then-some (number_at text) positive (number, rest) told in
+positive_sound : (text rest : List ℕ) (number : ℤ) → (number_at text >>= positive) ≡ Some (number, rest) → (text ≡ signed_decimal number ++ rest) × FitsSigned w32 number
+positive_sound text rest number told =
+    let first = then_some (number_at text) positive (number, rest) told in
     let size : ℕ = first.0.0 in
     let after : List ℕ = first.0.1 in
-    let chosen = if-some (nat_lt size (2 ^ 31)) (pos size, after) (number, rest) first.2 in
+    let chosen = if_some (nat_lt size (2 ^ 31)) (pos size, after) (number, rest) first.2 in
     let small : size < 2 ^ 31 = ltb-true size (2 ^ 31) chosen.0 in
     let is : pos size ≡ number = ap (λ it. it.0) chosen.1 in
     let behind : after ≡ rest = ap (λ it. it.1) chosen.1 in
-    let read = number-sound text after size first.1 in (
+    let read = number_sound text after size first.1 in (
       read.0 ∙ ap (λ it. signed_decimal it ++ after) is ∙ ap (λ it. signed_decimal number ++ it) behind,
       subst (λ it. FitsSigned w32 it) is (record { sfits = small }),
     )
 
-signed-parts : (sign : Option (List ℕ)) (text rest : List ℕ) (number : ℤ) → behind (codes "-") text ≡ sign → signed_from sign text ≡ Some (number, rest) → (text ≡ signed_decimal number ++ rest) × FitsSigned w32 number
-signed-parts (Some after) text rest number is told =
-    let read = negative-sound after rest number told in
-    (behind-sound (codes "-") text after is ∙ read.0, read.1)
-signed-parts None text rest number is told = positive-sound text rest number told
+signed_parts : (sign : Option (List ℕ)) (text rest : List ℕ) (number : ℤ) → behind (codes "-") text ≡ sign → signed_from sign text ≡ Some (number, rest) → (text ≡ signed_decimal number ++ rest) × FitsSigned w32 number
+signed_parts (Some after) text rest number is told =
+    let read = negative_sound after rest number told in
+    (behind_sound (codes "-") text after is ∙ read.0, read.1)
+signed_parts None text rest number is told = positive_sound text rest number told
 
-pub signed-sound : (text rest : List ℕ) (number : ℤ) → signed_at text ≡ Some (number, rest) → (text ≡ signed_decimal number ++ rest) × FitsSigned w32 number
+pub signed_sound : (text rest : List ℕ) (number : ℤ) → signed_at text ≡ Some (number, rest) → (text ≡ signed_decimal number ++ rest) × FitsSigned w32 number
 unfolding signed_at
-signed-sound text rest number told = signed-parts (behind (codes "-") text) text rest number refl told
+signed_sound text rest number told = signed_parts (behind (codes "-") text) text rest number refl told
 
-unsigned-front : (digits rest : List ℕ) → AllDigits 10 digits → 0 < length digits → behind (codes "-") (digits ++ rest) ≡ None
-unsigned-front [] rest are some = absurd (omega arith)
-unsigned-front (byte ∷ digits) rest are some = let range = digit_from_value byte are.0 in behind-other 45 [] byte (digits ++ rest) (omega arith)
+unsigned_front : (digits rest : List ℕ) → AllDigits 10 digits → 0 < length digits → behind (codes "-") (digits ++ rest) ≡ None
+unsigned_front [] rest are some = absurd (omega arith)
+unsigned_front (byte ∷ digits) rest are some = let range = digit_from_value byte are.0 in behind_other 45 [] byte (digits ++ rest) (omega arith)
 
-pub signed-complete : (number : ℤ) (rest : List ℕ) → FitsSigned w32 number → NoDigit rest → signed_at (signed_decimal number ++ rest) ≡ Some (number, rest)
+pub signed_complete : (number : ℤ) (rest : List ℕ) → FitsSigned w32 number → NoDigit rest → signed_at (signed_decimal number ++ rest) ≡ Some (number, rest)
 unfolding signed_at
-signed-complete (pos size) rest fits none =
+signed_complete (pos size) rest fits none =
     let numeral = decimal_is_IsNumeral size (omega (arith, fits.sfits)) in
-    let read = number-complete size rest (omega (arith, fits.sfits)) none in
+    let read = number_complete size rest (omega (arith, fits.sfits)) none in
     let small : nat_lt size (2 ^ 31) ≡ true = grind (arith, nat_tests, fits.sfits) in
-    rw (unsigned-front (decimal size) rest numeral.0.1 numeral.0.0, read, small)
-signed-complete (negsuc size) rest fits none =
-    let read = number-complete (suc size) rest (omega (arith, fits.sfits)) none in
+    rw (unsigned_front (decimal size) rest numeral.0.1 numeral.0.0, read, small)
+signed_complete (negsuc size) rest fits none =
+    let read = number_complete (suc size) rest (omega (arith, fits.sfits)) none in
     let small : nat_le (suc size) (2 ^ 31) ≡ true = grind (arith, nat_tests, fits.sfits) in
     let some : nat_lt 0 (suc size) ≡ true = grind (arith, nat_tests) in
-    rw (behind-complete (codes "-") (decimal (suc size) ++ rest), read, some, small)
+    rw (behind_complete (codes "-") (decimal (suc size) ++ rest), read, some, small)

@@ -10,41 +10,41 @@ use Rattle.std.specs.Str.{bytes_eq}
 use Rattle.wl_text.specs.Front.{behind, split_before}
 
 -- what a chosen value tells of the choice
-pub if-some : {X : Type 0} (test : Bool) (x y : X) → cond test (Some x) None ≡ Some y → (test ≡ true) × (x ≡ y)
-if-some true x y chosen = (refl, cc chosen)
-if-some false x y chosen = cc chosen
+pub if_some : {X : Type 0} (test : Bool) (x y : X) → cond test (Some x) None ≡ Some y → (test ≡ true) × (x ≡ y)
+if_some true x y chosen = (refl, cc chosen)
+if_some false x y chosen = cc chosen
 
-pub some-same : {X : Type 0} (x y : X) → Some x ≡ Some y → x ≡ y
-some-same x y same = cc same
+pub some_same : {X : Type 0} (x y : X) → Some x ≡ Some y → x ≡ y
+some_same x y same = cc same
 
 -- what a chain that gave a value tells of its steps
-pub then-some : {X Y : Type 0} (first : Option X) (next : X → Option Y) (y : Y) → option_and_then next first ≡ Some y → (x : X) × (first ≡ Some x) × (next x ≡ Some y)
-then-some (Some x) next y told = (x, refl, told)
-then-some None next y told = cc told
+pub then_some : {X Y : Type 0} (first : Option X) (next : X → Option Y) (y : Y) → option_and_then next first ≡ Some y → (x : X) × (first ≡ Some x) × (next x ≡ Some y)
+then_some (Some x) next y told = (x, refl, told)
+then_some None next y told = cc told
 
-pub map-some : {X Y : Type 0} (first : Option X) (f : X → Y) (y : Y) → option_map f first ≡ Some y → (x : X) × (first ≡ Some x) × (f x ≡ y)
-map-some (Some x) f y told = (x, refl, cc told)
-map-some None f y told = cc told
+pub map_some : {X Y : Type 0} (first : Option X) (f : X → Y) (y : Y) → option_map f first ≡ Some y → (x : X) × (first ≡ Some x) × (f x ≡ y)
+map_some (Some x) f y told = (x, refl, cc told)
+map_some None f y told = cc told
 
 -- a word at the front
-pub behind-sound : (word text rest : List ℕ) → behind word text ≡ Some rest → text ≡ word ++ rest
+pub behind_sound : (word text rest : List ℕ) → behind word text ≡ Some rest → text ≡ word ++ rest
 unfolding behind
-behind-sound word text rest told =
-    let found = if-some (bytes_eq (take (length word) text) word) (drop (length word) text) rest told in
+behind_sound word text rest told =
+    let found = if_some (bytes_eq (take (length word) text) word) (drop (length word) text) rest told in
     let front = (bytes_eq-Decides (take (length word) text) word).0 found.0 in
     sym (take-append-drop (length word) text) ∙ ap (λ it. it ++ drop (length word) text) front ∙ ap (λ it. word ++ it) found.1
 
-pub behind-complete : (word rest : List ℕ) → behind word (word ++ rest) ≡ Some rest
+pub behind_complete : (word rest : List ℕ) → behind word (word ++ rest) ≡ Some rest
 unfolding behind
-behind-complete word rest =
+behind_complete word rest =
     let front : take (length word) (word ++ rest) ≡ word = take_at word rest (length word) refl in
     let same : bytes_eq (take (length word) (word ++ rest)) word ≡ true = (bytes_eq-Decides (take (length word) (word ++ rest)) word).1 front in
     rw (same, drop_at word rest (length word) refl)
 
 -- the bytes before a byte
-pub split-sound : (stop : ℕ) (text front rest : List ℕ) → split_before stop text ≡ Some (front, rest) → text ≡ front ++ (stop ∷ rest)
-split-sound stop text front rest told =
-    let found = map-some (position (λ byte. byte == stop) text) (λ at. (take at text, drop (at + 1) text)) (front, rest) told in
+pub split_sound : (stop : ℕ) (text front rest : List ℕ) → split_before stop text ≡ Some (front, rest) → text ≡ front ++ (stop ∷ rest)
+split_sound stop text front rest told =
+    let found = map_some (position (λ byte. byte == stop) text) (λ at. (take at text, drop (at + 1) text)) (front, rest) told in
     let at = position-Some (λ byte. byte == stop) text found.0 0 found.1 in
     let here : get_or text found.0 0 ≡ stop = eqb-true (get_or text found.0 0) stop at.1 in
     let parts : take found.0 text ++ (get_or text found.0 0 ∷ drop (found.0 + 1) text) ≡ text = ap (λ it. take found.0 text ++ it) (sym (drop_more text found.0 0 at.0)) ∙ take-append-drop found.0 text in
@@ -57,17 +57,17 @@ split-sound stop text front rest told =
 abbrev pub lacks : ℕ → List ℕ → Bool
 lacks stop bytes = list_all (λ byte. not (byte == stop)) bytes
 
-lacks-len : (stop : ℕ) (front rest : List ℕ) → lacks stop front ≡ true → position_or_len (λ byte. byte == stop) (front ++ (stop ∷ rest)) ≡ length front
-lacks-len stop [] rest none = grind (arith, nat_tests)
-lacks-len stop (byte ∷ front) rest none =
+lacks_len : (stop : ℕ) (front rest : List ℕ) → lacks stop front ≡ true → position_or_len (λ byte. byte == stop) (front ++ (stop ∷ rest)) ≡ length front
+lacks_len stop [] rest none = grind (arith, nat_tests)
+lacks_len stop (byte ∷ front) rest none =
     let parts = and_parts (not (byte == stop)) (lacks stop front) none in
-    let more = lacks-len stop front rest parts.1 in
+    let more = lacks_len stop front rest parts.1 in
     rw parts.0 (omega (arith, more))
 
-pub split-complete : (stop : ℕ) (front rest : List ℕ) → lacks stop front ≡ true → split_before stop (front ++ (stop ∷ rest)) ≡ Some (front, rest)
-split-complete stop front rest none =
+pub split_complete : (stop : ℕ) (front rest : List ℕ) → lacks stop front ≡ true → split_before stop (front ++ (stop ∷ rest)) ≡ Some (front, rest)
+split_complete stop front rest none =
     let whole : List ℕ = front ++ (stop ∷ rest) in
-    let len : position_or_len (λ byte. byte == stop) whole ≡ length front = lacks-len stop front rest none in
+    let len : position_or_len (λ byte. byte == stop) whole ≡ length front = lacks_len stop front rest none in
     let long : length whole ≡ length front + suc (length rest) = length-append front (stop ∷ rest) in
     let inside : nat_lt (length front) (length whole) ≡ true = grind (arith, nat_tests) in
     let place : position (λ byte. byte == stop) whole ≡ Some (length front) = rw (len, inside) refl in
@@ -77,6 +77,6 @@ split-complete stop front rest none =
     rw (place, fronts, pieces) refl
 
 -- another byte at the front
-pub behind-other : (stop : ℕ) (word : List ℕ) (first : ℕ) (rest : List ℕ) → first ≢ stop → behind (stop ∷ word) (first ∷ rest) ≡ None
+pub behind_other : (stop : ℕ) (word : List ℕ) (first : ℕ) (rest : List ℕ) → first ≢ stop → behind (stop ∷ word) (first ∷ rest) ≡ None
 unfolding behind
-behind-other stop word first rest other = rw (ne_eqb first stop other)
+behind_other stop word first rest other = rw (ne_eqb first stop other)

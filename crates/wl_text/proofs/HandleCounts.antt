@@ -43,43 +43,43 @@ takes _ null _ fits = absurd fits
 abbrev AreCounted : ℕ → List ℤ → Type 0
 AreCounted count handles = (length handles ≡ count) × All IsNumber handles
 
-handle-counted : (count : ℕ) (args : List Arg) (handles : List ℤ) → ((handles : List ℤ) → Named args handles → AreCounted count handles) → Named (arg.Handle ∷ args) handles → AreCounted (1 + count) handles
-handle-counted count args [] later named = absurd named.0
-handle-counted count args (number ∷ handles) later named =
+handle_counted : (count : ℕ) (args : List Arg) (handles : List ℤ) → ((handles : List ℤ) → Named args handles → AreCounted count handles) → Named (arg.Handle ∷ args) handles → AreCounted (1 + count) handles
+handle_counted count args [] later named = absurd named.0
+handle_counted count args (number ∷ handles) later named =
     let more = later handles named.1 in
     (omega (arith, more.0), All-cons IsNumber number handles named.0 more.1)
 
-pub named-counts : (slots : List Slot) (args : List Arg) (handles : List ℤ) → FitSlots slots args → Named args handles → AreCounted (handle_count slots) handles
-named-counts [] [] [] fits named = (refl, All-nil IsNumber)
-named-counts [] [] (number ∷ handles) fits named = absurd named
-named-counts [] (value ∷ args) handles fits named = absurd fits
-named-counts (slot ∷ slots) [] handles fits named = absurd fits
-named-counts (slot ∷ slots) (value ∷ args) handles fits named =
-    let later = λ (handles : List ℤ) (named : Named args handles). named-counts slots args handles fits.1 named in
+pub named_counts : (slots : List Slot) (args : List Arg) (handles : List ℤ) → FitSlots slots args → Named args handles → AreCounted (handle_count slots) handles
+named_counts [] [] [] fits named = (refl, All-nil IsNumber)
+named_counts [] [] (number ∷ handles) fits named = absurd named
+named_counts [] (value ∷ args) handles fits named = absurd fits
+named_counts (slot ∷ slots) [] handles fits named = absurd fits
+named_counts (slot ∷ slots) (value ∷ args) handles fits named =
+    let later = λ (handles : List ℤ) (named : Named args handles). named_counts slots args handles fits.1 named in
     elim (takes slot.kind slot.null value fits.0) [
       | inl none ↦ (
           let more = later handles (subst (Named args) (none.leaves handles) named.1) in
           (omega (arith, more.0, none.counts), more.1))
       | inr one ↦ (
-          let more = handle-counted (handle_count slots) args handles later (subst (λ it. Named (it ∷ args) handles) one.is named) in
+          let more = handle_counted (handle_count slots) args handles later (subst (λ it. Named (it ∷ args) handles) one.is named) in
           (omega (arith, more.0, one.counts), more.1))
     ]
 
-handle-named : (count : ℕ) (args : List Arg) (handles : List ℤ) → ((handles : List ℤ) → AreCounted count handles → Named args handles) → AreCounted (1 + count) handles → Named (arg.Handle ∷ args) handles
-handle-named count args [] later counted = absurd (omega (arith, counted.0))
-handle-named count args (number ∷ handles) later counted =
+handle_named : (count : ℕ) (args : List Arg) (handles : List ℤ) → ((handles : List ℤ) → AreCounted count handles → Named args handles) → AreCounted (1 + count) handles → Named (arg.Handle ∷ args) handles
+handle_named count args [] later counted = absurd (omega (arith, counted.0))
+handle_named count args (number ∷ handles) later counted =
     (All-head IsNumber number handles counted.1, later handles (omega (arith, counted.0), All-tail IsNumber number handles counted.1))
 
-pub counted-names : (slots : List Slot) (args : List Arg) (handles : List ℤ) → FitSlots slots args → AreCounted (handle_count slots) handles → Named args handles
-counted-names [] [] [] fits counted = tt
-counted-names [] [] (number ∷ handles) fits counted = absurd (omega (arith, counted.0))
-counted-names [] (value ∷ args) handles fits counted = absurd fits
-counted-names (slot ∷ slots) [] handles fits counted = absurd fits
-counted-names (slot ∷ slots) (value ∷ args) handles fits counted =
-    let later = λ (handles : List ℤ) (counted : AreCounted (handle_count slots) handles). counted-names slots args handles fits.1 counted in
+pub counted_names : (slots : List Slot) (args : List Arg) (handles : List ℤ) → FitSlots slots args → AreCounted (handle_count slots) handles → Named args handles
+counted_names [] [] [] fits counted = tt
+counted_names [] [] (number ∷ handles) fits counted = absurd (omega (arith, counted.0))
+counted_names [] (value ∷ args) handles fits counted = absurd fits
+counted_names (slot ∷ slots) [] handles fits counted = absurd fits
+counted_names (slot ∷ slots) (value ∷ args) handles fits counted =
+    let later = λ (handles : List ℤ) (counted : AreCounted (handle_count slots) handles). counted_names slots args handles fits.1 counted in
     elim (takes slot.kind slot.null value fits.0) [
       | inl none ↦ (none.named handles, subst (Named args) (sym (none.leaves handles)) (later handles (omega (arith, counted.0, none.counts), counted.1)))
       | inr one ↦
           subst (λ it. Named (it ∷ args) handles) (sym one.is)
-          (handle-named (handle_count slots) args handles later (omega (arith, counted.0, one.counts), counted.1))
+          (handle_named (handle_count slots) args handles later (omega (arith, counted.0, one.counts), counted.1))
     ]

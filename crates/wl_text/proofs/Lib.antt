@@ -13,4 +13,5 @@ pub mod MessageTextLaws
 pub mod PrintLemmas
 pub mod TableFacts
 pub mod TextArgsLemmas
+pub mod VisibleLaws
 pub mod WireBytes

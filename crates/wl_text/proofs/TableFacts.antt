@@ -1,4 +1,4 @@
--- Over the whole table: no interface's name has an `@` and no message's name a parenthesis, no interface has more than 16 messages of a way, and each place of a handle tells its kind.
+-- Over the whole table: all names are visible, no interface's name has an `@` and no message's name a parenthesis, no interface has more than 16 messages of a way, and each place of a handle tells its kind.
 use Rattle.std.proofs.Common.{◌≡◌, ℕ, ◌+◌, ◌==◌, List, [], ◌∷◌, length, filter_map, nat_le, ◌&&◌, Bool, true, refl}
 use Rattle.std.specs.List.{list_all}
 use Rattle.wl_wire.specs.declared.signature.ArgKind.{ArgKind}
@@ -12,6 +12,7 @@ use Rattle.wl_wire.specs.declared.signature.Slot.{Slot}
 use Rattle.wl_tables.specs.Messages.{form_of, carried_by}
 use Rattle.wl_tables.specs.Places.{MessageRow}
 use Rattle.wl_tables.specs.Table.{messages}
+use Rattle.wl_text.specs.Enclosed.{is_shown}
 use Rattle.wl_text.proofs.FrontLaws.{lacks}
 
 -- how many handles arguments at these places are
@@ -24,7 +25,7 @@ handle_count [] = 0
 handle_count (slot ∷ slots) = kind_count slot.kind + handle_count slots
 
 abbrev pub is_readable : MessageRow → Bool
-is_readable row = lacks 40 row.name && (handle_count (form_of row).slots == length (filter_map carried_by row.places))
+is_readable row = (lacks 40 row.name && list_all is_shown row.name) && (handle_count (form_of row).slots == length (filter_map carried_by row.places))
 
 abbrev pub are_readable : List MessageRow → Bool
 are_readable rows = nat_le (length rows) 16 && list_all is_readable rows
@@ -81,29 +82,29 @@ readable XdgToplevel Event = refl
 readable XdgPopup Request = refl
 readable XdgPopup Event = refl
 
-pub name-lacks : (interface : Interface) → lacks 64 (interface_name interface) ≡ true
-name-lacks WlDisplay = refl
-name-lacks WlRegistry = refl
-name-lacks WlCallback = refl
-name-lacks WlCompositor = refl
-name-lacks WlShm = refl
-name-lacks WlShmPool = refl
-name-lacks WlBuffer = refl
-name-lacks WlSurface = refl
-name-lacks WlRegion = refl
-name-lacks WlSeat = refl
-name-lacks WlPointer = refl
-name-lacks WlKeyboard = refl
-name-lacks WlTouch = refl
-name-lacks WlOutput = refl
-name-lacks WlSubcompositor = refl
-name-lacks WlSubsurface = refl
-name-lacks WlDataDeviceManager = refl
-name-lacks WlDataDevice = refl
-name-lacks WlDataSource = refl
-name-lacks WlDataOffer = refl
-name-lacks XdgWmBase = refl
-name-lacks XdgPositioner = refl
-name-lacks XdgSurface = refl
-name-lacks XdgToplevel = refl
-name-lacks XdgPopup = refl
+pub readable_name : (interface : Interface) → (lacks 64 (interface_name interface) && list_all is_shown (interface_name interface)) ≡ true
+readable_name WlDisplay = refl
+readable_name WlRegistry = refl
+readable_name WlCallback = refl
+readable_name WlCompositor = refl
+readable_name WlShm = refl
+readable_name WlShmPool = refl
+readable_name WlBuffer = refl
+readable_name WlSurface = refl
+readable_name WlRegion = refl
+readable_name WlSeat = refl
+readable_name WlPointer = refl
+readable_name WlKeyboard = refl
+readable_name WlTouch = refl
+readable_name WlOutput = refl
+readable_name WlSubcompositor = refl
+readable_name WlSubsurface = refl
+readable_name WlDataDeviceManager = refl
+readable_name WlDataDevice = refl
+readable_name WlDataSource = refl
+readable_name WlDataOffer = refl
+readable_name XdgWmBase = refl
+readable_name XdgPositioner = refl
+readable_name XdgSurface = refl
+readable_name XdgToplevel = refl
+readable_name XdgPopup = refl

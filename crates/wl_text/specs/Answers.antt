@@ -5,7 +5,8 @@ use Rattle.wl_text.specs.declared.text_message.TextFault.{TextFault}
 use Rattle.wl_text.specs.declared.text_message.TextFault.TheVariants.{Form, Memory}
 use Rattle.wl_text.specs.Front.{Read}
 
--- the answer is what stands at the front, or that nothing of the kind does; want of memory alone is free
+-- the answer is what stands at the front, or that nothing of the kind does; want of memory alone is
+-- free
 abbrev pub Tells : {X : Type 0} → Result (X × Bor (List ℕ)) TextFault → Read X → Type 0
 Tells (Ok it) told = told ≡ Some (it.0, it.1.now)
 Tells (Err Form) told = told ≡ None

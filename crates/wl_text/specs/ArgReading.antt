@@ -1,5 +1,6 @@
 -- Reading the text of a message's arguments by their places; the form is this project's own.
-use Rattle.std.specs.Prelude.{ℕ, ℤ, ◌==◌, if◌then◌else◌, List, [], ◌∷◌, ◌++◌, codes, Bool, Option, Some, None, option_map}
+use Rattle.std.specs.Prelude.{ℕ, ℤ, ◌==◌, if◌then◌else◌, List, [], ◌∷◌, ◌++◌, codes, Bool, Option}
+use Rattle.std.specs.Prelude.{Some, None, option_map}
 use Rattle.wl_wire.specs.declared.arguments.Arg.{Arg}
 use Rattle.wl_wire.specs.declared.arguments.Arg.TheVariants as arg
 use Rattle.wl_wire.specs.declared.signature.ArgKind.{ArgKind}
@@ -118,11 +119,13 @@ with_handle (Some number) handles = number ∷ handles
 
 -- an argument before others
 abbrev pub with_arg : TextArg → TextArgs → TextArgs
-with_arg it more = record { args = it.arg ∷ more.args; handles = with_handle it.handle more.handles }
+with_arg it more =
+    record { args = it.arg ∷ more.args; handles = with_handle it.handle more.handles }
 
 -- an argument behind others
 abbrev pub and_arg : TextArgs → TextArg → TextArgs
-and_arg said it = record { args = said.args ++ it.arg ∷ []; handles = said.handles ++ with_handle it.handle [] }
+and_arg said it =
+    record { args = said.args ++ it.arg ∷ []; handles = said.handles ++ with_handle it.handle [] }
 
 -- an argument for this place, behind a word
 unfoldable pub arg_behind : List ℕ → Slot → List ℕ → Read TextArg
@@ -132,4 +135,6 @@ arg_behind word slot text = behind word text >>= arg_at slot.kind slot.null
 unfoldable pub args_at : List ℕ → List Slot → List ℕ → Read TextArgs
 args_at word [] text = Some (record { args = []; handles = [] }, text)
 args_at word (slot ∷ slots) text =
-    arg_behind word slot text >>= (λ one. option_map (λ more. (with_arg one.0 more.0, more.1)) (args_at comma slots one.1))
+    arg_behind word slot text
+    >>= (λ one. option_map (λ more. (with_arg one.0 more.0, more.1))
+    (args_at comma slots one.1))

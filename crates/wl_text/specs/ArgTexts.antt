@@ -1,8 +1,10 @@
--- The text of a message's arguments; the form is this project's own, near to that of libwayland's `WAYLAND_DEBUG`.
+-- The text of a message's arguments; the form is this project's own, near to that of libwayland's
+-- `WAYLAND_DEBUG`.
 use Rattle.std.specs.Prelude.{ℕ, ℤ, ◌==◌, if◌then◌else◌, List, [], ◌∷◌, ◌++◌, drop, codes, decimal}
 use Rattle.std.specs.Fmt.{signed_decimal}
 use Rattle.wl_wire.specs.declared.arguments.Arg.{Arg}
-use Rattle.wl_wire.specs.declared.arguments.Arg.TheVariants.{Int, Uint, Fixed, Str, NullStr, Object, NewId, Bind, Array, Handle}
+use Rattle.wl_wire.specs.declared.arguments.Arg.TheVariants.{Int, Uint, Fixed, Str, NullStr, Object}
+use Rattle.wl_wire.specs.declared.arguments.Arg.TheVariants.{NewId, Bind, Array, Handle}
 use Rattle.wl_text.specs.declared.enclosed.Enclosure.TheVariants.{Quotes, Brackets}
 use Rattle.wl_text.specs.Enclosed.{enclosed_text}
 
@@ -45,4 +47,5 @@ comma = codes ", "
 -- all arguments, with a word before the first
 abbrev pub args_text : List ℕ → List Arg → List ℤ → List ℕ
 args_text word [] handles = []
-args_text word (it ∷ args) handles = word ++ (arg_text it handles ++ args_text comma args (handles_behind it handles))
+args_text word (it ∷ args) handles =
+    word ++ (arg_text it handles ++ args_text comma args (handles_behind it handles))

@@ -1,5 +1,8 @@
--- Bytes in a text: those of a string between quotes, with escapes as C has them, and those of an array between brackets in lower-case hexadecimal; the forms are this project's own.
-use Rattle.std.specs.Prelude.{ℕ, zero, suc, ◌+◌, ◌-◌, ◌*◌, ◌/◌, ◌%◌, List, [], ◌∷◌, ◌++◌, length, Bool, not, ◌==◌, ◌&&◌, ◌||◌, nat_lt, nat_le, if◌then◌else◌, Option, Some, None, option_map}
+-- Bytes in a text: those of a string between quotes, with escapes as C has them, and those of an
+-- array between brackets in lower-case hexadecimal; the forms are this project's own.
+use Rattle.std.specs.Prelude.{ℕ, zero, suc, ◌+◌, ◌-◌, ◌*◌, ◌/◌, ◌%◌, List, [], ◌∷◌, ◌++◌, length}
+use Rattle.std.specs.Prelude.{Bool, not, ◌==◌, ◌&&◌, ◌||◌, nat_lt, nat_le, if◌then◌else◌, Option}
+use Rattle.std.specs.Prelude.{Some, None, option_map}
 use Rattle.std.specs.List.{flat_map}
 use Rattle.wl_text.specs.declared.enclosed.Enclosure.{Enclosure}
 use Rattle.wl_text.specs.declared.enclosed.Enclosure.TheVariants.{Quotes, Brackets}
@@ -113,7 +116,8 @@ with_byte byte more = option_map (λ it. (byte ∷ it.0, it.1)) more
 unfoldable pub items_within : Enclosure → ℕ → List ℕ → Read (List ℕ)
 items_within kind zero text = None
 items_within kind (suc most) text =
-    closed_or (behind (closing kind ∷ []) text) (item_at kind text >>= (λ one. with_byte one.0 (items_within kind most one.1)))
+    closed_or (behind (closing kind ∷ []) text)
+    (item_at kind text >>= (λ one. with_byte one.0 (items_within kind most one.1)))
 
 -- the bytes up to the closing one
 abbrev pub items_at : Enclosure → List ℕ → Read (List ℕ)

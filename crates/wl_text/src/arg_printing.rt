@@ -1,14 +1,15 @@
-// The text of arguments.
+//! The text of arguments.
 
 ghost use Rattle.std.specs.Prelude.{◌≡◌, ◌++◌, [], OnOk};
-ghost use Rattle.wl_text.specs.ArgTexts.{object_text, new_text, handle_text, arg_text, handles_behind, args_text};
+ghost use Rattle.wl_text.specs.ArgTexts.{object_text, new_text, handle_text, arg_text};
+ghost use Rattle.wl_text.specs.ArgTexts.{handles_behind, args_text};
 
 use crate::decimals::{put_number, put_signed};
 use crate::enclosed::{Enclosure, put_enclosed};
 use std::alloc::AllocError;
 use wl_wire::{Arg, Text};
 
-// Adds the id of an object, or the sign of null.
+/// Adds the id of an object, or the sign of null.
 fn put_object(out: &mut Text, id: u32) -> Result<(), AllocError>
     ensures { OnOk result (out.new ≡ out.old ++ object_text id) }
 {
@@ -20,7 +21,7 @@ fn put_object(out: &mut Text, id: u32) -> Result<(), AllocError>
     }
 }
 
-// Adds the id of a new object.
+/// Adds the id of a new object.
 fn put_new(out: &mut Text, id: u32) -> Result<(), AllocError>
     ensures { OnOk result (out.new ≡ out.old ++ new_text id) }
 {
@@ -28,7 +29,7 @@ fn put_new(out: &mut Text, id: u32) -> Result<(), AllocError>
     put_number(out, id)
 }
 
-// Adds a number in 1/256.
+/// Adds a number in 1/256.
 fn put_fixed(out: &mut Text, value: i32) -> Result<(), AllocError>
     ensures { OnOk result (out.new ≡ out.old ++ arg_text (Arg.Fixed value) []) }
 {
@@ -36,7 +37,7 @@ fn put_fixed(out: &mut Text, value: i32) -> Result<(), AllocError>
     out.append(b"/256")
 }
 
-// Adds what `wl_registry.bind` names.
+/// Adds what `wl_registry.bind` names.
 fn put_bind(out: &mut Text, interface: &[u8], version: u32, id: u32) -> Result<(), AllocError>
     ensures { OnOk result (out.new ≡ out.old ++ arg_text (Arg.Bind interface.now version id) []) }
 {
@@ -47,7 +48,7 @@ fn put_bind(out: &mut Text, interface: &[u8], version: u32, id: u32) -> Result<(
     put_new(out, id)
 }
 
-// Adds the number of the first of the handles that are left.
+/// Adds the number of the first of the handles that are left.
 fn put_handle(out: &mut Text, handles: &[i32]) -> Result<(), AllocError>
     ensures { OnOk result (out.new ≡ out.old ++ handle_text handles.now) }
 {
@@ -58,7 +59,7 @@ fn put_handle(out: &mut Text, handles: &[i32]) -> Result<(), AllocError>
     }
 }
 
-// Adds an argument, where these handles are left.
+/// Adds an argument, where these handles are left.
 fn put_arg(out: &mut Text, arg: &Arg, handles: &[i32]) -> Result<(), AllocError>
     ensures { OnOk result (out.new ≡ out.old ++ arg_text arg.now handles.now) }
 {
@@ -80,7 +81,7 @@ fn put_arg(out: &mut Text, arg: &Arg, handles: &[i32]) -> Result<(), AllocError>
     }
 }
 
-// The handles that are left behind an argument.
+/// The handles that are left behind an argument.
 fn handles_behind<'a>(arg: &Arg, handles: &'a [i32]) -> &'a [i32]
     ensures { result.now ≡ handles_behind arg.now handles.now }
 {
@@ -90,7 +91,7 @@ fn handles_behind<'a>(arg: &Arg, handles: &'a [i32]) -> &'a [i32]
     }
 }
 
-// Adds all arguments, with a comma between two.
+/// Adds all arguments, with a comma between two.
 pub(crate) fn put_args(out: &mut Text, args: &[Arg], handles: &[i32]) -> Result<(), AllocError>
     ensures { OnOk result (out.new ≡ out.old ++ args_text [] args.now handles.now) }
 {

@@ -1,9 +1,12 @@
-// Arguments of a text, by their places.
+//! Arguments of a text, by their places.
 
 ghost use Rattle.std.specs.Prelude.{◌≡◌, codes, [], false, None, option_map, OnOk};
 ghost use Rattle.wl_text.specs.Answers.{Tells};
 ghost use Rattle.wl_text.specs.Front.{read_view, behind};
-ghost use Rattle.wl_text.specs.ArgReading.{plain, null_at, int_at, uint_at, fixed_at, quoted_at, string_from, object_from, new_id_at, new_at, bound_at, bind_at, array_at, handle_at, arg_at, and_arg, arg_behind, args_at};
+ghost use Rattle.wl_text.specs.ArgReading.{plain, null_at, int_at, uint_at, fixed_at, quoted_at};
+ghost use Rattle.wl_text.specs.ArgReading.{string_from, object_from, new_id_at, new_at, bound_at};
+ghost use Rattle.wl_text.specs.ArgReading.{bind_at, array_at, handle_at, arg_at, and_arg};
+ghost use Rattle.wl_text.specs.ArgReading.{arg_behind, args_at};
 
 use crate::decimals::{number_at, signed_at};
 use crate::enclosed::{Enclosure, enclosed_at};
@@ -12,35 +15,35 @@ use crate::text_message::TextFault;
 use std::alloc::{AllocError, Global};
 use wl_wire::{Arg, ArgKind, ArgList, HandleNumbers, Signature, Slot};
 
-// An argument, and the number of its handle if it is one.
+/// An argument, and the number of its handle if it is one.
 #[derive(Drop)]
 pub(crate) struct TextArg {
     arg: Arg,
     handle: Option<i32>,
 }
 
-// Arguments, and the numbers of their handles.
+/// Arguments, and the numbers of their handles.
 #[derive(Drop)]
 pub(crate) struct TextArgs {
     pub(crate) args: ArgList,
     pub(crate) handles: HandleNumbers,
 }
 
-// An argument that is no handle.
+/// An argument that is no handle.
 fn plain(arg: Arg) -> TextArg
     ensures { result ≡ plain arg }
 {
     TextArg { arg, handle: None }
 }
 
-// What stands for null, where a place allows it.
+/// What stands for null, where a place allows it.
 fn null_at(null: bool, arg: Arg, rest: &[u8]) -> Option<(TextArg, &[u8])>
     ensures { read_view result ≡ null_at null arg rest.now }
 {
     if null { Some((plain(arg), rest)) } else { None }
 }
 
-// A signed number.
+/// A signed number.
 #[tactic(auto, unfolding(crate::specs::ArgReading::int_at))]
 fn int_at(text: &[u8]) -> Option<(TextArg, &[u8])>
     ensures { read_view result ≡ int_at text.now }
@@ -49,7 +52,7 @@ fn int_at(text: &[u8]) -> Option<(TextArg, &[u8])>
     Some((plain(Arg::Int(value)), rest))
 }
 
-// An unsigned number.
+/// An unsigned number.
 #[tactic(auto, unfolding(crate::specs::ArgReading::uint_at))]
 fn uint_at(text: &[u8]) -> Option<(TextArg, &[u8])>
     ensures { read_view result ≡ uint_at text.now }
@@ -58,7 +61,7 @@ fn uint_at(text: &[u8]) -> Option<(TextArg, &[u8])>
     Some((plain(Arg::Uint(value)), rest))
 }
 
-// A signed number in 1/256.
+/// A signed number in 1/256.
 #[tactic(auto, unfolding(crate::specs::ArgReading::fixed_at))]
 fn fixed_at(text: &[u8]) -> Option<(TextArg, &[u8])>
     ensures { read_view result ≡ fixed_at text.now }
@@ -68,18 +71,16 @@ fn fixed_at(text: &[u8]) -> Option<(TextArg, &[u8])>
     Some((plain(Arg::Fixed(value)), rest))
 }
 
-// A string that isn't null.
+/// A string that isn't null.
 #[tactic(auto, unfolding(crate::specs::ArgReading::quoted_at))]
 fn quoted_at(alloc: Global, text: &[u8]) -> Result<(TextArg, &[u8]), TextFault>
     ensures { Tells result (quoted_at text.now) }
 {
-    match enclosed_at(alloc, Enclosure::Quotes, text) {
-        Ok((bytes, rest)) => Ok((plain(Arg::Str(bytes)), rest)),
-        Err(fault) => Err(fault),
-    }
+    let (bytes, rest) = enclosed_at(alloc, Enclosure::Quotes, text)?;
+    Ok((plain(Arg::Str(bytes)), rest))
 }
 
-// A string.
+/// A string.
 fn string_at(alloc: Global, null: bool, text: &[u8]) -> Result<(TextArg, &[u8]), TextFault>
     ensures { Tells result (string_from (behind (codes "null") text.now) null text.now) }
 {
@@ -89,7 +90,7 @@ fn string_at(alloc: Global, null: bool, text: &[u8]) -> Result<(TextArg, &[u8]),
     }
 }
 
-// An object that isn't null.
+/// An object that isn't null.
 fn some_object_at(text: &[u8]) -> Option<(TextArg, &[u8])>
     ensures { read_view result ≡ object_from None false text.now }
 {
@@ -102,7 +103,7 @@ fn some_object_at(text: &[u8]) -> Option<(TextArg, &[u8])>
     }
 }
 
-// An object.
+/// An object.
 fn object_at(null: bool, text: &[u8]) -> Option<(TextArg, &[u8])>
     ensures { read_view result ≡ object_from (behind (codes "null") text.now) null text.now }
 {
@@ -112,7 +113,7 @@ fn object_at(null: bool, text: &[u8]) -> Option<(TextArg, &[u8])>
     }
 }
 
-// The id of a new object.
+/// The id of a new object.
 #[tactic(auto, unfolding(crate::specs::ArgReading::new_id_at))]
 fn new_id_at(text: &[u8]) -> Option<(u32, &[u8])>
     ensures { read_view result ≡ new_id_at text.now }
@@ -121,7 +122,7 @@ fn new_id_at(text: &[u8]) -> Option<(u32, &[u8])>
     number_at(rest)
 }
 
-// A new object of the interface that the table names.
+/// A new object of the interface that the table names.
 #[tactic(auto, unfolding(crate::specs::ArgReading::new_at))]
 fn new_at(text: &[u8]) -> Option<(TextArg, &[u8])>
     ensures { read_view result ≡ new_at text.now }
@@ -130,7 +131,7 @@ fn new_at(text: &[u8]) -> Option<(TextArg, &[u8])>
     Some((plain(Arg::NewId(id)), rest))
 }
 
-// The version and the id of what `wl_registry.bind` names.
+/// The version and the id of what `wl_registry.bind` names.
 #[tactic(auto, unfolding(crate::specs::ArgReading::bound_at))]
 fn bound_at(text: &[u8]) -> Option<(u32, u32, &[u8])>
     ensures { option_map (λ it. ((it.0, it.1), it.2.now)) result ≡ bound_at text.now }
@@ -142,39 +143,35 @@ fn bound_at(text: &[u8]) -> Option<(u32, u32, &[u8])>
     Some((version, id, rest))
 }
 
-// What `wl_registry.bind` names.
+/// What `wl_registry.bind` names.
 #[tactic(auto, unfolding(crate::specs::ArgReading::bind_at))]
 fn bind_at(alloc: Global, text: &[u8]) -> Result<(TextArg, &[u8]), TextFault>
     ensures { Tells result (bind_at text.now) }
 {
-    match enclosed_at(alloc, Enclosure::Quotes, text) {
-        Ok((interface, rest)) => match bound_at(rest) {
-            Some((version, id, rest)) => {
-                let arg = Arg::Bind {
-                    interface,
-                    version,
-                    id,
-                };
-                Ok((plain(arg), rest))
-            }
-            None => Err(TextFault::Form),
-        },
-        Err(fault) => Err(fault),
+    let (interface, rest) = enclosed_at(alloc, Enclosure::Quotes, text)?;
+    match bound_at(rest) {
+        Some((version, id, rest)) => {
+            let arg = Arg::Bind {
+                interface,
+                version,
+                id,
+            };
+            Ok((plain(arg), rest))
+        }
+        None => Err(TextFault::Form),
     }
 }
 
-// An array.
+/// An array.
 #[tactic(auto, unfolding(crate::specs::ArgReading::array_at))]
 fn array_at(alloc: Global, text: &[u8]) -> Result<(TextArg, &[u8]), TextFault>
     ensures { Tells result (array_at text.now) }
 {
-    match enclosed_at(alloc, Enclosure::Brackets, text) {
-        Ok((bytes, rest)) => Ok((plain(Arg::Array(bytes)), rest)),
-        Err(fault) => Err(fault),
-    }
+    let (bytes, rest) = enclosed_at(alloc, Enclosure::Brackets, text)?;
+    Ok((plain(Arg::Array(bytes)), rest))
 }
 
-// A handle by its number.
+/// A handle by its number.
 #[tactic(auto, unfolding(crate::specs::ArgReading::handle_at))]
 fn handle_at(text: &[u8]) -> Option<(TextArg, &[u8])>
     ensures { read_view result ≡ handle_at text.now }
@@ -188,7 +185,7 @@ fn handle_at(text: &[u8]) -> Option<(TextArg, &[u8])>
     Some((arg, rest))
 }
 
-// What was read without memory, as an answer.
+/// What was read without memory, as an answer.
 fn given(read: Option<(TextArg, &[u8])>) -> Result<(TextArg, &[u8]), TextFault>
     ensures { Tells result (read_view read.entry) }
 {
@@ -198,7 +195,7 @@ fn given(read: Option<(TextArg, &[u8])>) -> Result<(TextArg, &[u8]), TextFault>
     }
 }
 
-// The argument of a kind.
+/// The argument of a kind.
 fn arg_at(
     alloc: Global,
     kind: ArgKind,
@@ -220,7 +217,7 @@ fn arg_at(
     }
 }
 
-// An argument for a place, behind a word.
+/// An argument for a place, behind a word.
 #[tactic(auto, unfolding(crate::specs::ArgReading::arg_behind))]
 fn arg_behind<'a>(
     alloc: Global,
@@ -237,7 +234,7 @@ fn arg_behind<'a>(
 }
 
 impl TextArgs {
-    // No arguments.
+    /// No arguments.
     fn new(alloc: Global) -> TextArgs
         ensures { result ≡ record { args = []; handles = [] } }
     {
@@ -247,7 +244,7 @@ impl TextArgs {
         }
     }
 
-    // Adds an argument.
+    /// Adds an argument.
     fn push(&mut self, it: TextArg) -> Result<(), AllocError>
         ensures { OnOk result (self.new ≡ and_arg self.old it) }
     {
@@ -259,7 +256,7 @@ impl TextArgs {
     }
 }
 
-// One argument for each place, with a comma between two.
+/// One argument for each place, with a comma between two.
 pub(crate) fn args_at<'a>(
     alloc: Global,
     signature: &Signature,
@@ -271,13 +268,9 @@ pub(crate) fn args_at<'a>(
     let mut rest = text;
     let mut word: &[u8] = b"";
     'slots: for i in 0..signature.len() {
-        match arg_behind(alloc, word, signature.slot(i), rest) {
-            Ok((it, after)) => {
-                said.push(it)?;
-                rest = after;
-            }
-            Err(fault) => return Err(fault),
-        }
+        let (it, after) = arg_behind(alloc, word, signature.slot(i), rest)?;
+        said.push(it)?;
+        rest = after;
         word = b", ";
     }
     Ok((said, rest))

@@ -1,4 +1,4 @@
-// Decimal numbers: read at the front of a text, added at its end.
+//! Decimal numbers: read at the front of a text, added at its end.
 
 ghost use Rattle.std.specs.Prelude.{◌≡◌, ◌≤◌, ◌++◌, length, decimal, OnOk};
 ghost use Rattle.std.specs.Char.{is_ascii_digit};
@@ -13,7 +13,7 @@ use itoa::Buffer;
 use std::alloc::AllocError;
 use wl_wire::Text;
 
-// The number of digits, if it has 32 bits.
+/// The number of digits, if it has 32 bits.
 fn word_of(digits: &[u8]) -> Option<u32>
     requires { AllDigits 10 digits.now }
     ensures { result ≡ word_of digits.now }
@@ -25,7 +25,7 @@ fn word_of(digits: &[u8]) -> Option<u32>
     Some(word)
 }
 
-// How many digits stand at the front.
+/// How many digits stand at the front.
 fn digit_count(text: &[u8]) -> usize
     ensures count { result ≡ prefix_len is_ascii_digit text.now }
     ensures within { result ≤ length text.now }
@@ -33,7 +33,7 @@ fn digit_count(text: &[u8]) -> usize
     text.iter().take_while(|byte| byte.is_ascii_digit()).count()
 }
 
-// An unsigned number, without leading zeros.
+/// An unsigned number, without leading zeros.
 pub(crate) fn number_at(text: &[u8]) -> Option<(u32, &[u8])>
     ensures { read_view result ≡ number_at text.now }
 {
@@ -47,7 +47,7 @@ pub(crate) fn number_at(text: &[u8]) -> Option<(u32, &[u8])>
     }
 }
 
-// The number of this size behind a sign.
+/// The number of this size behind a sign.
 fn negative(size: u32, rest: &[u8]) -> Option<(i32, &[u8])>
     ensures { read_view result ≡ negative (size, rest.now) }
 {
@@ -58,7 +58,7 @@ fn negative(size: u32, rest: &[u8]) -> Option<(i32, &[u8])>
     }
 }
 
-// The number of this size without a sign.
+/// The number of this size without a sign.
 fn positive(size: u32, rest: &[u8]) -> Option<(i32, &[u8])>
     ensures { read_view result ≡ positive (size, rest.now) }
 {
@@ -69,7 +69,7 @@ fn positive(size: u32, rest: &[u8]) -> Option<(i32, &[u8])>
     }
 }
 
-// A signed number, without leading zeros, and with a sign only where it is negative.
+/// A signed number, without leading zeros, and with a sign only where it is negative.
 #[tactic(auto, unfolding(crate::specs::Decimals::signed_at))]
 pub(crate) fn signed_at(text: &[u8]) -> Option<(i32, &[u8])>
     ensures { read_view result ≡ signed_at text.now }
@@ -86,7 +86,7 @@ pub(crate) fn signed_at(text: &[u8]) -> Option<(i32, &[u8])>
     }
 }
 
-// Adds an unsigned number.
+/// Adds an unsigned number.
 pub(crate) fn put_number(out: &mut Text, number: u32) -> Result<(), AllocError>
     ensures { OnOk result (out.new ≡ out.old ++ decimal number) }
 {
@@ -94,7 +94,7 @@ pub(crate) fn put_number(out: &mut Text, number: u32) -> Result<(), AllocError>
     out.append(buffer.format(number).as_bytes())
 }
 
-// Adds a signed number.
+/// Adds a signed number.
 pub(crate) fn put_signed(out: &mut Text, number: i32) -> Result<(), AllocError>
     ensures { OnOk result (out.new ≡ out.old ++ signed_decimal number) }
 {

@@ -1,27 +1,30 @@
-// Bytes in a text: a string between quotes, an array between brackets.
+//! Bytes in a text: a string between quotes, an array between brackets.
 
 ghost use Rattle.std.specs.Prelude.{◌≡◌, ◌+◌, ◌++◌, ◌<◌, ◌∷◌, [], OnOk};
 ghost use Rattle.std.specs.List.{flat_map};
 ghost use Rattle.wl_text.specs.Answers.{Tells};
 ghost use Rattle.wl_text.specs.Front.{read_view};
-ghost use Rattle.wl_text.specs.Enclosed.{digit, digit_number, two_digits, two_digits_at, is_marked, is_shown, byte_text, hidden, escape_at, byte_at, opening, closing, item_text, item_at, enclosed_text, items_at, enclosed_at};
+ghost use Rattle.wl_text.specs.Enclosed.{digit, digit_number, two_digits, two_digits_at, is_marked};
+ghost use Rattle.wl_text.specs.Enclosed.{is_shown, byte_text, hidden, escape_at, byte_at, opening};
+ghost use Rattle.wl_text.specs.Enclosed.{closing, item_text, item_at, enclosed_text, items_at};
+ghost use Rattle.wl_text.specs.Enclosed.{enclosed_at};
 
 use crate::front::behind;
 use crate::text_message::TextFault;
 use std::alloc::{AllocError, Global};
 use wl_wire::{Bytes, Text};
 
-// What stands around bytes, and so how they are written.
+/// What stands around bytes, and so how they are written.
 #[derive(Clone, Copy)]
 pub(crate) enum Enclosure {
-    // A string: visible bytes as they are, with escapes for others.
+    /// A string: visible bytes as they are, with escapes for others.
     Quotes,
-    // An array: two hexadecimal digits for each byte.
+    /// An array: two hexadecimal digits for each byte.
     Brackets,
 }
 
 impl Enclosure {
-    // The byte before the first.
+    /// The byte before the first.
     fn opening(self) -> u8
         ensures { result ≡ opening self }
     {
@@ -31,7 +34,7 @@ impl Enclosure {
         }
     }
 
-    // The byte behind the last.
+    /// The byte behind the last.
     fn closing(self) -> u8
         ensures { result ≡ closing self }
     {
@@ -42,7 +45,7 @@ impl Enclosure {
     }
 }
 
-// The digit of a number below 16.
+/// The digit of a number below 16.
 fn digit(number: u8) -> u8
     requires { number < 16 }
     ensures { result ≡ digit number }
@@ -54,7 +57,7 @@ fn digit(number: u8) -> u8
     }
 }
 
-// The number of a digit.
+/// The number of a digit.
 fn digit_number(byte: u8) -> Option<u8>
     ensures { result ≡ digit_number byte }
 {
@@ -65,14 +68,14 @@ fn digit_number(byte: u8) -> Option<u8>
     }
 }
 
-// Adds the two digits of a byte.
+/// Adds the two digits of a byte.
 fn put_two_digits(out: &mut Text, byte: u8) -> Result<(), AllocError>
     ensures { OnOk result (out.new ≡ out.old ++ two_digits byte) }
 {
     out.append(&[digit(byte / 16), digit(byte % 16)])
 }
 
-// The byte of two digits.
+/// The byte of two digits.
 fn two_digits_at(text: &[u8]) -> Option<(u8, &[u8])>
     ensures { read_view result ≡ two_digits_at text.now }
 {
@@ -86,21 +89,21 @@ fn two_digits_at(text: &[u8]) -> Option<(u8, &[u8])>
     }
 }
 
-// Whether a byte of a string stands behind a backslash.
+/// Whether a byte of a string stands behind a backslash.
 fn is_marked(byte: u8) -> bool
     ensures { result ≡ is_marked byte }
 {
     byte == b'"' || byte == b'\\'
 }
 
-// Whether a byte is visible or a space.
+/// Whether a byte is visible or a space.
 fn is_shown(byte: u8) -> bool
     ensures { result ≡ is_shown byte }
 {
     byte >= b' ' && byte <= b'~'
 }
 
-// Adds a byte of a string.
+/// Adds a byte of a string.
 fn put_byte(out: &mut Text, byte: u8) -> Result<(), AllocError>
     ensures { OnOk result (out.new ≡ out.old ++ byte_text byte) }
 {
@@ -113,7 +116,7 @@ fn put_byte(out: &mut Text, byte: u8) -> Result<(), AllocError>
     }
 }
 
-// A byte that was read from two digits, which one that is shown is not written with.
+/// A byte that was read from two digits, which one that is shown is not written with.
 fn hidden(byte: u8, rest: &[u8]) -> Option<(u8, &[u8])>
     ensures { read_view result ≡ hidden (byte, rest.now) }
 {
@@ -124,7 +127,7 @@ fn hidden(byte: u8, rest: &[u8]) -> Option<(u8, &[u8])>
     }
 }
 
-// What stands behind a backslash.
+/// What stands behind a backslash.
 fn escape_at(text: &[u8]) -> Option<(u8, &[u8])>
     ensures { read_view result ≡ escape_at text.now }
 {
@@ -143,7 +146,7 @@ fn escape_at(text: &[u8]) -> Option<(u8, &[u8])>
     }
 }
 
-// A byte of a string.
+/// A byte of a string.
 fn byte_at(text: &[u8]) -> Option<(u8, &[u8])>
     ensures { read_view result ≡ byte_at text.now }
 {
@@ -161,7 +164,7 @@ fn byte_at(text: &[u8]) -> Option<(u8, &[u8])>
     }
 }
 
-// Adds one byte.
+/// Adds one byte.
 fn put_item(out: &mut Text, kind: Enclosure, byte: u8) -> Result<(), AllocError>
     ensures { OnOk result (out.new ≡ out.old ++ item_text kind byte) }
 {
@@ -171,7 +174,7 @@ fn put_item(out: &mut Text, kind: Enclosure, byte: u8) -> Result<(), AllocError>
     }
 }
 
-// One byte.
+/// One byte.
 fn item_at(kind: Enclosure, text: &[u8]) -> Option<(u8, &[u8])>
     ensures { read_view result ≡ item_at kind text.now }
 {
@@ -181,7 +184,7 @@ fn item_at(kind: Enclosure, text: &[u8]) -> Option<(u8, &[u8])>
     }
 }
 
-// Adds all bytes.
+/// Adds all bytes.
 fn put_items(out: &mut Text, kind: Enclosure, bytes: &[u8]) -> Result<(), AllocError>
     ensures { OnOk result (out.new ≡ out.old ++ flat_map (item_text kind) bytes.now) }
 {
@@ -191,7 +194,7 @@ fn put_items(out: &mut Text, kind: Enclosure, bytes: &[u8]) -> Result<(), AllocE
     Ok(())
 }
 
-// Adds bytes with what is around them.
+/// Adds bytes with what is around them.
 pub(crate) fn put_enclosed(out: &mut Text, kind: Enclosure, bytes: &[u8]) -> Result<(), AllocError>
     ensures { OnOk result (out.new ≡ out.old ++ enclosed_text kind bytes.now) }
 {
@@ -200,7 +203,7 @@ pub(crate) fn put_enclosed(out: &mut Text, kind: Enclosure, bytes: &[u8]) -> Res
     out.push(kind.closing())
 }
 
-// The bytes up to the closing one.
+/// The bytes up to the closing one.
 fn items_at(alloc: Global, kind: Enclosure, text: &[u8]) -> Result<(Bytes, &[u8]), TextFault>
     ensures { Tells result (items_at kind text.now) }
 {
@@ -222,7 +225,7 @@ fn items_at(alloc: Global, kind: Enclosure, text: &[u8]) -> Result<(Bytes, &[u8]
     Err(TextFault::Form)
 }
 
-// Bytes with what is around them.
+/// Bytes with what is around them.
 #[tactic(auto, unfolding(crate::specs::Enclosed::enclosed_at))]
 pub(crate) fn enclosed_at(
     alloc: Global,

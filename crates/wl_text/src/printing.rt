@@ -1,16 +1,15 @@
-// The text of a message.
+//! The text of a message.
 
 ghost use Rattle.std.specs.Prelude.{◌≡◌, ◌++◌, OnOk, IfOk};
 ghost use Rattle.wl_text.specs.Text.{CanPrint, start_text, call_text, text_of};
 
 use crate::arg_printing::put_args;
 use crate::decimals::put_number;
-use crate::head::is_event;
 use std::alloc::{AllocError, Global};
 use wl_tables::{Interface, Way, interface_name, message_name, signature};
 use wl_wire::{Arg, Message, MessageFault, Text, args};
 
-// Adds the interface and the object.
+/// Adds the interface and the object.
 fn put_start(out: &mut Text, interface: Interface, object: u32) -> Result<(), AllocError>
     ensures { OnOk result (out.new ≡ out.old ++ start_text interface object) }
 {
@@ -19,7 +18,7 @@ fn put_start(out: &mut Text, interface: Interface, object: u32) -> Result<(), Al
     put_number(out, object)
 }
 
-// Adds the name and the arguments.
+/// Adds the name and the arguments.
 fn put_call(out: &mut Text, name: &str, args: &[Arg], handles: &[i32]) -> Result<(), AllocError>
     ensures { OnOk result (out.new ≡ out.old ++ call_text name.now args.now handles.now) }
 {
@@ -30,8 +29,9 @@ fn put_call(out: &mut Text, name: &str, args: &[Arg], handles: &[i32]) -> Result
     out.push(b')')
 }
 
-/// The text of a message of an object of this interface. `handles` are the numbers of the handles that it carries, in
-/// order. The message needs its row's arguments and as many numbers as its row has handles.
+/// The text of a message of an object of this interface. `handles` are the numbers of the handles
+/// that it carries, in order. The message needs its row's arguments and as many numbers as its row
+/// has handles.
 ///
 /// # Errors
 /// Only where memory runs out.
@@ -45,7 +45,7 @@ pub fn print_message(
     requires { CanPrint interface way m.now handles.now }
     ensures { IfOk result (λ text. text ≡ text_of interface way m.now handles.now) }
 {
-    let events = is_event(way);
+    let events = way.is_event();
     let opcode = m.opcode();
     let signature = signature(interface, events, opcode);
     match (signature, message_name(interface, events, opcode)) {

@@ -1,4 +1,4 @@
-// The message of a text.
+//! The message of a text.
 
 ghost use Rattle.wl_text.specs.Answers.{Answers};
 ghost use Rattle.wl_text.specs.Text.{Reads, last_args_at, message_from, message_of};
@@ -11,21 +11,19 @@ use std::alloc::Global;
 use wl_tables::Way;
 use wl_wire::{Signature, build, fits_message};
 
-// The arguments, which end with the line.
+/// The arguments, which end with the line.
 #[tactic(auto, unfolding(crate::specs::Text::last_args_at))]
 fn last_args_at(alloc: Global, signature: &Signature, text: &[u8]) -> Result<TextArgs, TextFault>
     ensures { Answers result (last_args_at signature.now text.now) }
 {
-    match args_at(alloc, signature, text) {
-        Ok((said, rest)) => match behind(b")", rest) {
-            Some([]) => Ok(said),
-            _ => Err(TextFault::Form),
-        },
-        Err(fault) => Err(fault),
+    let (said, rest) = args_at(alloc, signature, text)?;
+    match behind(b")", rest) {
+        Some([]) => Ok(said),
+        _ => Err(TextFault::Form),
     }
 }
 
-// The message of these arguments, unless it is too long.
+/// The message of these arguments, unless it is too long.
 #[tactic(auto, unfolding(crate::specs::Text::message_from))]
 fn message_from(alloc: Global, head: &Head, said: TextArgs) -> Result<TextMessage, TextFault>
     ensures { Reads result (message_from head.now said) }
@@ -33,29 +31,27 @@ fn message_from(alloc: Global, head: &Head, said: TextArgs) -> Result<TextMessag
     if !fits_message(&said.args) {
         return Err(TextFault::Form);
     }
-    match build(alloc, head.object, head.opcode, &said.args) {
-        Ok(message) => Ok(TextMessage {
-            message,
-            interface: head.interface,
-            handles: said.handles,
-        }),
-        Err(_) => Err(TextFault::Memory),
-    }
+    Ok(TextMessage {
+        message: build(alloc, head.object, head.opcode, &said.args)?,
+        interface: head.interface,
+        handles: said.handles,
+    })
 }
 
 /// The message whose text a line is, of a request or an event.
 ///
 /// # Errors
-/// `Form` exactly where the line is the text of no message of that way, `Memory` where memory runs out.
+/// `Form` exactly where the line is the text of no message of that way, `Memory` where memory runs
+/// out.
 #[tactic(auto, unfolding(crate::specs::Text::message_of))]
 pub fn read_message(alloc: Global, line: &[u8], way: Way) -> Result<TextMessage, TextFault>
     ensures exact { Reads result (message_of way line.now) }
 {
     match head_at(way, line) {
-        Some((head, rest)) => match last_args_at(alloc, &head.signature, rest) {
-            Ok(said) => message_from(alloc, &head, said),
-            Err(fault) => Err(fault),
-        },
+        Some((head, rest)) => {
+            let said = last_args_at(alloc, &head.signature, rest)?;
+            message_from(alloc, &head, said)
+        }
         None => Err(TextFault::Form),
     }
 }

@@ -1,4 +1,4 @@
-// Messages as text, both ways.
+//! Messages as text, both ways.
 
 mod long;
 mod refused;
@@ -14,7 +14,7 @@ const UP: Way = Way::Request;
 
 const DOWN: Way = Way::Event;
 
-// The message of a line, and the text of that message.
+/// The message of a line, and the text of that message.
 fn again(alloc: Global, line: &[u8], way: Way) -> Result<(TextMessage, Text), TextFault> {
     read_is_text();
     match read_message(alloc, line, way) {

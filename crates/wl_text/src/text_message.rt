@@ -1,4 +1,4 @@
-// A message as it is read from its text.
+//! A message as it is read from its text.
 
 ghost use Rattle.std.specs.Prelude.{◌≡◌};
 ghost use Rattle.wl_text.specs.declared.text_message.TextFault.TheVariants.{Memory};

@@ -1,17 +1,16 @@
 -- How the reading of arguments goes along the places: what is left to read gives the whole.
-use Rattle.std.proofs.Common.{◌==◌, true, ◌≡◌, ◌≢◌, ℕ, ◌+◌, ◌<◌, ◌≤◌, List, [], ◌∷◌, ◌++◌, length, take, drop, slice_get, Option, Some, Result, Err, subst, refl, sym, ap, ◌∙◌, append_assoc, take-append-drop}
-use Rattle.std.proofs.lemmas.List.{append-nil, drop_more, drop_all, nil_from_length}
+use Rattle.std.proofs.Common.{◌==◌, true, ◌≡◌, ◌≢◌, ℕ, ◌+◌, ◌<◌, ◌≤◌, List, [], ◌∷◌, ◌++◌, length, take, drop, map, slice_get, slice_set, Some, Ok, Err, subst, refl, sym, ap, ◌∙◌, append_assoc, take-append-drop}
+use Rattle.std.proofs.lemmas.List.{take_more_set, map-append, append-nil, drop_more, drop_all, nil_from_length}
 use Rattle.std.proofs.lemmas.Bool.{eqb-true}
-use Rattle.wl_wire.specs.declared.faults.MessageFault.{MessageFault}
-use Rattle.wl_wire.specs.declared.faults.MessageFault.TheVariants.{Wire, Memory}
 use Rattle.std.proofs.lemmas.Option.{slice_get_within, get_or_from_slice_get}
 use Rattle.wl_wire.specs.declared.arguments.Arg.{Arg}
 use Rattle.wl_wire.specs.declared.faults.WireFault.{WireFault}
 use Rattle.wl_wire.specs.declared.faults.WireFault.TheVariants.{ArgLong}
 use Rattle.wl_wire.specs.declared.signature.Slot.{Slot}
-use Rattle.wl_wire.specs.Arguments.{Spells}
-use Rattle.wl_wire.specs.ArgFaults.{arg_size, after_arg, args_fault, Decodes}
-use Rattle.wl_wire.specs.ArgStep.{IsRead, StepDecodes}
+use Rattle.wl_wire.specs.declared.arg_views.ArgView.{ArgView}
+use Rattle.wl_wire.specs.ArgSights.{seen_arg}
+use Rattle.wl_wire.specs.Arguments.{IsArg, Spells}
+use Rattle.wl_wire.specs.ArgFaults.{arg_size, after_arg, args_fault}
 
 -- i places were read into the list, and the rest of the bytes is left
 pub record SoFar (slots : List Slot) (bytes : List ℕ) (i : ℕ) (rest : List ℕ) (list : List Arg) : Type 0 where
@@ -27,21 +26,24 @@ next-slot slots i slot e =
     let within : i < length slots = slice_get_within slots i slot e in
     drop_more slots i slot within ∙ ap (λ it. it ∷ drop (i + 1) slots) (get_or_from_slice_get slots i slot slot e)
 
-pub so_far-next : (slots : List Slot) (bytes : List ℕ) (i : ℕ) (rest : List ℕ) (list : List Arg) (slot : Slot) (size : ℕ) (after : List Arg) → slice_get slots i ≡ Some slot → SoFar slots bytes i rest list → IsRead slot rest size list after → SoFar slots bytes (i + 1) (drop size rest) after
-so_far-next slots bytes i rest list slot size after e so_far read =
+pub so_far-next : (slots : List Slot) (bytes : List ℕ) (i : ℕ) (rest : List ℕ) (list : List Arg) (slot : Slot) (size : ℕ) (value : Arg) (after : List Arg)
+    → slice_get slots i ≡ Some slot → SoFar slots bytes i rest list
+    → arg_size slot.kind slot.null rest ≡ Ok size → IsArg slot.kind slot.null (take size rest) value → after ≡ list ++ value ∷ []
+    → SoFar slots bytes (i + 1) (drop size rest) after
+so_far-next slots bytes i rest list slot size value after e so_far sized spelled added =
     let next : drop i slots ≡ slot ∷ drop (i + 1) slots = next-slot slots i slot e in
     let goes_on : args_fault (slot ∷ drop (i + 1) slots) rest ≡ args_fault (drop (i + 1) slots) (drop size rest) =
-    ap (λ told. after_arg told (λ n. args_fault (drop (i + 1) slots) (drop n rest))) read.is_sized in
+    ap (λ told. after_arg told (λ n. args_fault (drop (i + 1) slots) (drop n rest))) sized in
     record {
       fault = so_far.fault ∙ ap (λ left. args_fault left rest) next ∙ goes_on;
       spells = λ later it.
-          let P : List Slot → Type 0 = λ left. Spells left rest (read.value ∷ later) in
+          let P : List Slot → Type 0 = λ left. Spells left rest (value ∷ later) in
           let Q : List Arg → Type 0 = λ all. Spells slots bytes all in
-          let whole : Spells (slot ∷ drop (i + 1) slots) rest (read.value ∷ later) =
-          (take size rest, (drop size rest, sym (take-append-drop size rest), read.is_spelled, it)) in
-          let joined : list ++ (read.value ∷ later) ≡ after ++ later =
-          sym (append_assoc list (read.value ∷ []) later) ∙ ap (λ all. all ++ later) (sym read.is_added) in
-          subst Q joined (so_far.spells (read.value ∷ later) (subst P (sym next) whole));
+          let whole : Spells (slot ∷ drop (i + 1) slots) rest (value ∷ later) =
+          (take size rest, (drop size rest, sym (take-append-drop size rest), spelled, it)) in
+          let joined : list ++ (value ∷ later) ≡ after ++ later =
+          sym (append_assoc list (value ∷ []) later) ∙ ap (λ all. all ++ later) (sym added) in
+          subst Q joined (so_far.spells (value ∷ later) (subst P (sym next) whole));
     }
 
 -- all places were read
@@ -63,10 +65,9 @@ pub fault-left : (rest : List ℕ) → length rest ≢ 0 → args_fault [] rest 
 fault-left [] some = absurd (some refl)
 fault-left (byte ∷ rest) some = refl
 
--- a step's fault is the whole's
-pub step-decodes : (fault : MessageFault) (told : Result ℕ WireFault) (whole : Option WireFault) → ((it : WireFault) → told ≡ Err it → whole ≡ Some it) → StepDecodes (Err fault) told → Decodes {X = List Arg} (Err fault) whole
-step-decodes (Wire it) told whole next step = next it step
-step-decodes Memory told whole next step = tt
-
 pub nil-test : (rest : List ℕ) → (length rest == 0) ≡ true → rest ≡ []
 nil-test rest e = nil_from_length rest (eqb-true (length rest) 0 e)
+
+-- one more argument that is seen
+pub seen_next : (views : List ArgView) (i : ℕ) (it : ArgView) → i < length views → map seen_arg (take (i + 1) (slice_set views i it)) ≡ map seen_arg (take i views) ++ seen_arg it ∷ []
+seen_next views i it within = ap (map seen_arg) (take_more_set views i it within) ∙ map-append seen_arg (take i views) (it ∷ [])

@@ -1,6 +1,6 @@
 -- What is built of the arguments that were read is what was read, with zeros as padding.
 use Rattle.std.proofs.Common.{◌≡◌, ℕ, ℤ, ◌+◌, ◌-◌, ◌*◌, ◌/◌, ◌%◌, ◌^◌, ◌<◌, ◌≤◌, List, [], ◌∷◌, ◌++◌, length, take, drop, get_or, slice_index, All, Bool, Ok, refl, sym, ap, ◌∙◌, subst, inl, inr, arith, length-append, w32, length-drop}
-use Rattle.std.proofs.lemmas.List.{take_at, drop_at, length-replicate, append_assoc, append-nil, get_or_past, take_all}
+use Rattle.std.proofs.lemmas.List.{take_at, drop_at, append_assoc, append-nil, get_or_past, take_all}
 use Rattle.std.proofs.lemmas.List.Elements.{All-get_or, All-take, All-drop}
 use Rattle.std.proofs.lemmas.Bool.{cases_lt}
 use Rattle.std.proofs.lemmas.Nat.{le_bytes_4}
@@ -19,7 +19,7 @@ use Rattle.wl_wire.specs.Building.{word_bytes, zeros, counted_bytes, string_byte
 use Rattle.wl_wire.specs.ArgLaws.{cleared_span, cleared, cleared_front, zero_padded, ReadIsBuilt}
 use Rattle.wl_wire.proofs.ArgReading.{is_word, word_at-drop}
 use Rattle.wl_wire.proofs.ArgShapes.{word-reads, arg-size}
-use Rattle.wl_wire.proofs.BuildingLemmas.{length-word_bytes}
+use Rattle.wl_wire.proofs.BuildingLemmas.{length-word_bytes, length_counted}
 
 -- a list of bytes
 abbrev pub AreBytes : List ℕ → Type 0
@@ -152,18 +152,11 @@ args-again (slot ∷ slots) bytes (value ∷ args) small h =
     ∙ sym whole
 
 -- what is built is as long as what was read
-length-counted : (content : List ℕ) → length (counted_bytes content) ≡ 4 + (length content + padding_of (length content))
-length-counted content =
-    let pad : ℕ = padding_of (length content) in
-    length-append (word_bytes (length content)) (content ++ zeros pad)
-    ∙ ap (λ n. n + length (content ++ zeros pad)) (length-word_bytes (length content))
-    ∙ ap (λ n. 4 + n) (length-append content (zeros pad) ∙ ap (λ n. length content + n) (length-replicate pad 0))
-
 counted-long : (bytes content : List ℕ) → IsCounted bytes content → length (counted_bytes content) ≡ length bytes
 counted-long bytes content it =
     let size : length bytes ≡ length it.count + (length content + length it.padding) =
     ap length it.parts ∙ length-append it.count (content ++ it.padding) ∙ ap (λ n. length it.count + n) (length-append content it.padding) in
-    length-counted content ∙ omega (arith, size, it.counts.four, it.fills)
+    length_counted content ∙ omega (arith, size, it.counts.four, it.fills)
 
 word-long : (bytes : List ℕ) (value : ℕ) → length bytes ≡ 4 → length (word_bytes value) ≡ length bytes
 word-long bytes value four = length-word_bytes value ∙ sym four

@@ -3,6 +3,7 @@ use Rattle.std.proofs.Common.{◌≡◌, ℕ, ◌+◌, ◌*◌, ◌/◌, ◌%◌
 use Rattle.std.proofs.lemmas.List.{take_more, append-nil, drop_at, length-replicate}
 use Rattle.std.proofs.lemmas.Nat.{from_le_bytes-to_le_bytes_4}
 use Rattle.std.specs.Int.{from_le_bytes, to_le_bytes, w32}
+use Rattle.wl_wire.specs.declared.message.TheConstants.{LONGEST_MESSAGE}
 use Rattle.wl_wire.specs.declared.arguments.Arg.{Arg}
 use Rattle.wl_wire.specs.declared.arguments.Arg.TheVariants.{Int, Uint, Fixed, Str, NullStr, Object, NewId, Bind, Array, Handle}
 use Rattle.wl_wire.specs.Wire.{word_at, size_of, IsMessage}
@@ -94,7 +95,7 @@ length-built object opcode args =
     let whole : length (built object opcode args) ≡ length (word_bytes object) + length (word_bytes second ++ args_bytes args) = length-append (word_bytes object) (word_bytes second ++ args_bytes args) in
     omega arith
 
-pub size_of-built : (object opcode : ℕ) (args : List Arg) → opcode < 2 ^ 16 → 8 + length (args_bytes args) ≤ 65532 → size_of (built object opcode args) ≡ 8 + length (args_bytes args)
+pub size_of-built : (object opcode : ℕ) (args : List Arg) → opcode < 2 ^ 16 → 8 + length (args_bytes args) ≤ LONGEST_MESSAGE → size_of (built object opcode args) ≡ 8 + length (args_bytes args)
 unfolding size_of
 size_of-built object opcode args low bound =
     let size : ℕ = 8 + length (args_bytes args) in
@@ -108,7 +109,7 @@ size_of-built object opcode args low bound =
     let upper : second / 2 ^ 16 % 2 ^ 16 ≡ size = omega arith in
     ap (λ it. it / 2 ^ 16 % 2 ^ 16) word ∙ upper
 
-pub built-message : (object opcode : ℕ) (args : List Arg) → opcode < 2 ^ 16 → 8 + length (args_bytes args) ≤ 65532 → IsMessage (built object opcode args)
+pub built-message : (object opcode : ℕ) (args : List Arg) → opcode < 2 ^ 16 → 8 + length (args_bytes args) ≤ LONGEST_MESSAGE → IsMessage (built object opcode args)
 built-message object opcode args low bound =
     let whole : length (built object opcode args) ≡ 8 + length (args_bytes args) = length-built object opcode args in
     record {

@@ -2,6 +2,7 @@
 use Rattle.std.proofs.Common.{subst, ◌≡◌, ◌≢◌, ℕ, ◌+◌, ◌/◌, ◌%◌, ◌^◌, ◌<◌, ◌≤◌, ◌⊎◌, inl, inr, List, ◌++◌, length, take, drop, slice_index, Some, None, Ok, Err, refl, sym, ap, ◌∙◌, arith, length-append, take-append-drop}
 use Rattle.std.proofs.lemmas.List.{get_or_append_left, take_at, drop_at, length-take-le}
 use Rattle.std.proofs.lemmas.Bool.{cases_lt, cases_eq, lt-ltb, le-ltb, eq-eqb, ne_eqb}
+use Rattle.wl_wire.specs.declared.message.TheConstants.{LONGEST_MESSAGE}
 use Rattle.wl_wire.specs.declared.faults.WireFault.{WireFault}
 use Rattle.wl_wire.specs.declared.faults.WireFault.TheVariants.{SizeSmall, SizeOdd, ArgShort, ArgLong, StringNoNul, NullNotAllowed}
 use Rattle.wl_wire.specs.Wire.{word_at, size_of, first, IsMessage, SizeIsFine, SizeFault, NoMessage, Stops}
@@ -61,7 +62,7 @@ message-front bytes fine whole =
     let front : length (take (size_of bytes) bytes) ≡ size_of bytes = length-take-le (size_of bytes) bytes whole in
     let header : 8 ≤ length (take (size_of bytes) bytes) = omega (arith, fine.covers_header) in
     let padded : length (take (size_of bytes) bytes) % 4 ≡ 0 = ap (λ n. n % 4) front ∙ fine.is_padded in
-    let bounded : length (take (size_of bytes) bytes) ≤ 65532 = omega (arith, size_of-bound bytes) in
+    let bounded : length (take (size_of bytes) bytes) ≤ LONGEST_MESSAGE = omega (arith, size_of-bound bytes) in
     let counted : size_of (take (size_of bytes) bytes) ≡ length (take (size_of bytes) bytes) =
     size_of-take (size_of bytes) bytes fine.covers_header whole ∙ sym front in
     record { has_header = header; is_bounded = bounded; is_padded = padded; is_counted = counted }

@@ -9,3 +9,4 @@ pub mod ArgUnique
 pub mod ArgValuesLemmas
 pub mod ArgRoundTrip
 pub mod ArgPadding
+pub mod ArgFaultLaws

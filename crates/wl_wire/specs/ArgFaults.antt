@@ -1,5 +1,6 @@
--- What is wrong with the arguments of a message in the wire format of the Wayland protocol: the fault of the first argument at fault, or bytes that are left.
-use Rattle.std.specs.Prelude.{◌≡◌, ℕ, ◌+◌, ◌==◌, nat_lt, if◌then◌else◌, List, [], ◌∷◌, length, drop, slice_index, Bool, false, Option, Some, None, Result, Ok, Err}
+-- What is wrong with the arguments of a message in the wire format of the Wayland protocol: the
+-- fault of the first argument at fault, or bytes that are left.
+use Rattle.std.specs.Prelude.{◌≡◌, ◌≢◌, ℕ, ◌+◌, ◌==◌, nat_lt, if◌then◌else◌, List, [], ◌∷◌, length, drop, slice_index, Bool, false, Option, Some, None, Result, Ok, Err}
 use Rattle.wl_wire.specs.declared.faults.MessageFault.{MessageFault}
 use Rattle.wl_wire.specs.declared.faults.MessageFault.TheVariants.{Wire, Memory}
 use Rattle.wl_wire.specs.declared.faults.WireFault.{WireFault}
@@ -42,7 +43,8 @@ string_size null bytes =
 
 -- two words behind what takes so many bytes
 abbrev pub with_two_words : Result ℕ WireFault → List ℕ → Result ℕ WireFault
-with_two_words (Ok size) bytes = if nat_lt (length bytes) (size + 8) then Err ArgShort else Ok (size + 8)
+with_two_words (Ok size) bytes =
+    if nat_lt (length bytes) (size + 8) then Err ArgShort else Ok (size + 8)
 with_two_words (Err fault) bytes = Err fault
 
 -- how many bytes the argument at the front takes, or what is wrong with it
@@ -66,10 +68,12 @@ after_arg (Err fault) later = Some fault
 abbrev pub args_fault : List Slot → List ℕ → Option WireFault
 args_fault [] [] = None
 args_fault [] (byte ∷ bytes) = Some ArgLong
-args_fault (slot ∷ slots) bytes = after_arg (arg_size slot.kind slot.null bytes) (λ size. args_fault slots (drop size bytes))
+args_fault (slot ∷ slots) bytes =
+    after_arg (arg_size slot.kind slot.null bytes) (λ size. args_fault slots (drop size bytes))
 
--- the answer is that fault, or that there is none; want of memory alone is free
-abbrev pub Decodes : {X : Type 0} → Result X MessageFault → Option WireFault → Type 0
-Decodes (Ok it) fault = fault ≡ None
-Decodes (Err (Wire it)) fault = fault ≡ Some it
-Decodes (Err Memory) fault = Unit {0}
+-- the answer is that fault, or that there is none; memory is wanted only where there is none, and
+-- an argument to keep
+abbrev pub Decodes : {X : Type 0} → List Slot → Result X MessageFault → Option WireFault → Type 0
+Decodes slots (Ok it) fault = fault ≡ None
+Decodes slots (Err (Wire it)) fault = fault ≡ Some it
+Decodes slots (Err Memory) fault = (fault ≡ None) × (slots ≢ [])

@@ -1,4 +1,5 @@
--- Laws of the arguments in the wire format of the Wayland protocol: they are read in one way, what is built is read again, and what was read is built again but for the padding.
+-- Laws of the arguments in the wire format of the Wayland protocol: they are read in one way, what
+-- is built is read again, and what was read is built again but for the padding.
 use Rattle.std.specs.Prelude.{◌≡◌, ◌↔◌, ℕ, ◌+◌, ◌-◌, ◌^◌, ◌<◌, List, [], ◌∷◌, ◌++◌, length, take, drop, All, Bool, IsTrue, None, Result, Ok, Err, FitsSigned}
 use Rattle.std.specs.Int.{w32}
 use Rattle.wl_wire.specs.declared.arguments.Arg.{Arg}
@@ -23,7 +24,8 @@ ReadsInOneWay =
 -- bytes that arguments spell have no fault, and bytes with no fault are spelled by some
 abbrev pub GoodIsSpelled : Type 0
 GoodIsSpelled =
-    (slots : List Slot) (bytes : List ℕ) → (args_fault slots bytes ≡ None) ↔ ((args : List Arg) × Spells slots bytes args)
+    (slots : List Slot) (bytes : List ℕ)
+    → (args_fault slots bytes ≡ None) ↔ ((args : List Arg) × Spells slots bytes args)
 
 -- the argument is of the kind, within the kind's range, and null only where that is allowed
 abbrev pub FitsSlot : ArgKind → Bool → Arg → Type 0
@@ -34,7 +36,8 @@ FitsSlot kind.Str null (arg.Str text) = length text + 1 < 2 ^ 32
 FitsSlot kind.Str null arg.NullStr = IsTrue null
 FitsSlot kind.Object null (arg.Object id) = (id ≡ 0 → IsTrue null) × (id < 2 ^ 32)
 FitsSlot kind.NewId null (arg.NewId id) = id < 2 ^ 32
-FitsSlot kind.Bind null (arg.Bind interface version id) = (length interface + 1 < 2 ^ 32) × (version < 2 ^ 32) × (id < 2 ^ 32)
+FitsSlot kind.Bind null (arg.Bind interface version id) =
+    (length interface + 1 < 2 ^ 32) × (version < 2 ^ 32) × (id < 2 ^ 32)
 FitsSlot kind.Array null (arg.Array content) = length content < 2 ^ 32
 FitsSlot kind.Handle null arg.Handle = Unit {0}
 FitsSlot _ _ _ = ⊥
@@ -61,7 +64,8 @@ cleared_span bytes = take (4 + word_at bytes 0) bytes ++ zeros (padding_of (word
 abbrev pub cleared : ArgKind → List ℕ → List ℕ
 cleared kind.Str bytes = cleared_span bytes
 cleared kind.Array bytes = cleared_span bytes
-cleared kind.Bind bytes = cleared_span (take (length bytes - 8) bytes) ++ drop (length bytes - 8) bytes
+cleared kind.Bind bytes =
+    cleared_span (take (length bytes - 8) bytes) ++ drop (length bytes - 8) bytes
 cleared _ bytes = bytes
 
 -- the argument at the front, and then the others
@@ -72,7 +76,8 @@ cleared_front (Err fault) it bytes next = bytes
 -- the bytes of the arguments with zeros as padding
 abbrev pub zero_padded : List Slot → List ℕ → List ℕ
 zero_padded [] bytes = bytes
-zero_padded (slot ∷ slots) bytes = cleared_front (arg_size slot.kind slot.null bytes) slot.kind bytes (zero_padded slots)
+zero_padded (slot ∷ slots) bytes =
+    cleared_front (arg_size slot.kind slot.null bytes) slot.kind bytes (zero_padded slots)
 
 -- the message that is built of what was read is the message with zeros as padding
 abbrev pub ReadIsBuilt : Type 0
@@ -81,4 +86,5 @@ ReadIsBuilt =
     → IsMessage message
     → All (λ byte. byte < 256) message
     → Spells slots (drop 8 message) args
-    → built (object_of message) (opcode_of message) args ≡ take 8 message ++ zero_padded slots (drop 8 message)
+    → built (object_of message) (opcode_of message) args
+    ≡ take 8 message ++ zero_padded slots (drop 8 message)

@@ -1,4 +1,6 @@
--- The arguments of a message in the wire format of the Wayland protocol (the chapter "Wire Format" of its document): a relation between the places of the arguments, the bytes behind the header, and the arguments.
+-- The arguments of a message in the wire format of the Wayland protocol (the chapter "Wire Format"
+-- of its document): a relation between the places of the arguments, the bytes behind the header,
+-- and the arguments.
 use Rattle.std.specs.Prelude.{◌≡◌, ℕ, ℤ, ◌-◌, ◌%◌, List, [], ◌∷◌, ◌++◌, length, Bool, IsTrue}
 use Rattle.std.specs.Int.{cast_signed, w32}
 use Rattle.wl_wire.specs.declared.arguments.Arg.{Arg}
@@ -64,4 +66,6 @@ Spells [] bytes [] = bytes ≡ []
 Spells [] bytes (it ∷ args) = ⊥
 Spells (slot ∷ slots) bytes [] = ⊥
 Spells (slot ∷ slots) bytes (it ∷ args) =
-    (front : List ℕ) × ((rest : List ℕ) × (bytes ≡ front ++ rest) × IsArg slot.kind slot.null front it × Spells slots rest args)
+    (front : List ℕ)
+    × ((rest : List ℕ)
+    × (bytes ≡ front ++ rest) × IsArg slot.kind slot.null front it × Spells slots rest args)

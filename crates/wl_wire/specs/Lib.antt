@@ -1,6 +1,5 @@
 pub mod ArgFaults
 pub mod ArgLaws
-pub mod ArgStep
 pub mod ArgValues
 pub mod Arguments
 pub mod Building
@@ -9,3 +8,6 @@ pub mod SignatureFields
 pub mod SignatureForm
 pub mod Wire
 pub mod WireLaws
+pub mod FaultNumbers
+pub mod ArgSights
+pub mod ArgFaultCases

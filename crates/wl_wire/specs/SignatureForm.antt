@@ -1,4 +1,5 @@
--- What a signature of the Wayland protocol says of a message: the places of its arguments in order, and whether it destroys its object.
+-- What a signature of the Wayland protocol says of a message: the places of its arguments in order,
+-- and whether it destroys its object.
 use Rattle.std.specs.Prelude.{List, [], ◌∷◌, ◌++◌, Bool}
 use Rattle.wl_wire.specs.declared.signature.Slot.{Slot}
 

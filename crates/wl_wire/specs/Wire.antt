@@ -1,6 +1,7 @@
--- The wire format of the Wayland protocol (the chapter "Wire Format" of its document): what a message is as a list of
--- bytes, and how a stream of bytes is cut into messages.
+-- The wire format of the Wayland protocol (the chapter "Wire Format" of its document): what a
+-- message is as a list of bytes, and how a stream of bytes is cut into messages.
 use Rattle.std.specs.Prelude.{◌≡◌, ◌≢◌, ℕ, zero, suc, ◌+◌, ◌*◌, ◌/◌, ◌%◌, ◌^◌, ◌<◌, ◌≤◌, ◌==◌, nat_lt, not, if◌then◌else◌, List, [], ◌∷◌, ◌++◌, length, take, drop, slice_index, ◌⊎◌, Option, Some, None, Result, Ok, Err}
+use Rattle.wl_wire.specs.declared.message.TheConstants.{LONGEST_MESSAGE}
 use Rattle.wl_wire.specs.declared.faults.WireFault.{WireFault}
 use Rattle.wl_wire.specs.declared.faults.WireFault.TheVariants.{SizeSmall, SizeOdd, ArgShort, ArgLong, StringNoNul, NullNotAllowed}
 
@@ -12,7 +13,8 @@ joined (piece ∷ pieces) = piece ++ joined pieces
 -- the 32-bit word that begins at a byte; words are little-endian
 unfoldable pub word_at : List ℕ → ℕ → ℕ
 word_at bytes at =
-    slice_index bytes at + 2 ^ 8 * slice_index bytes (at + 1) + 2 ^ 16 * slice_index bytes (at + 2) + 2 ^ 24 * slice_index bytes (at + 3)
+    slice_index bytes at + 2 ^ 8 * slice_index bytes (at + 1)
+    + 2 ^ 16 * slice_index bytes (at + 2) + 2 ^ 24 * slice_index bytes (at + 3)
 
 -- the header's first word: the id of the object that the message is for
 abbrev pub object_of : List ℕ → ℕ
@@ -22,14 +24,15 @@ object_of bytes = word_at bytes 0
 abbrev pub opcode_of : List ℕ → ℕ
 opcode_of bytes = word_at bytes 4 % 2 ^ 16
 
--- the upper half of the header's second word: how many bytes the message has, the header's 8 among them
+-- the upper half of the header's second word: how many bytes the message has, the header's 8 among
+-- them
 unfoldable pub size_of : List ℕ → ℕ
 size_of bytes = word_at bytes 4 / 2 ^ 16 % 2 ^ 16
 
 -- a whole message, as its header counts it
 pub record IsMessage (bytes : List ℕ) : Type 0 where
   pub has_header : 8 ≤ length bytes
-  pub is_bounded : length bytes ≤ 65532
+  pub is_bounded : length bytes ≤ LONGEST_MESSAGE
   pub is_padded : length bytes % 4 ≡ 0
   pub is_counted : size_of bytes ≡ length bytes
 

@@ -1,4 +1,4 @@
-// How many bytes an argument takes, and what may be wrong with it.
+//! How many bytes an argument takes, and what may be wrong with it.
 
 ghost use Rattle.std.specs.Prelude.{◌≡◌, ◌≤◌, ◌<◌, length, false, IfOk};
 ghost use Rattle.wl_wire.specs.Arguments.{padding_of};
@@ -17,7 +17,7 @@ pub(crate) fn padding_of(count: usize) -> usize
     (4 - count % 4) % 4
 }
 
-// The bytes of the length at the front, of what it counts and of the padding.
+/// The bytes of the length at the front, of what it counts and of the padding.
 #[tactic(auto, unfolding(crate::specs::ArgFaults::span_of))]
 fn span_of(bytes: &[u8]) -> usize
     requires { 4 ≤ length bytes.now }
@@ -99,18 +99,16 @@ fn string_size(bytes: &[u8], null: bool) -> Result<usize, WireFault>
     }
 }
 
-// A string that isn't null, and two words behind it.
+/// A string that isn't null, and two words behind it.
 fn bind_size(bytes: &[u8]) -> Result<usize, WireFault>
     ensures exact { result ≡ with_two_words (string_size false bytes.now) bytes.now }
     ensures there { IfOk result (λ size. size ≤ length bytes.now) }
 {
-    match string_size(bytes, false) {
-        Ok(size) => if bytes.len() < size + 8 {
-            Err(WireFault::ArgShort)
-        } else {
-            Ok(size + 8)
-        },
-        Err(fault) => Err(fault),
+    let size = string_size(bytes, false)?;
+    if bytes.len() < size + 8 {
+        Err(WireFault::ArgShort)
+    } else {
+        Ok(size + 8)
     }
 }
 

@@ -1,16 +1,16 @@
-// Builds a message from its arguments.
+//! Builds a message from its arguments.
 
 ghost use Rattle.std.specs.Prelude.{◌≡◌, ◌+◌, ◌≤◌, ◌<◌, ◌^◌, ◌∷◌, [], ◌++◌, length, OnOk, IfOk};
 ghost use Rattle.wl_wire.specs.Arguments.{padding_of};
 ghost use Rattle.wl_wire.specs.Building.{word_bytes, zeros, counted_bytes, string_bytes_of, arg_bytes, args_bytes, built};
 
 use crate::arg_sizes::padding_of;
-use crate::arguments::{Arg, ArgList};
-use crate::byte_list::Bytes;
-use crate::message::Message;
+use crate::arguments::Arg;
+use crate::lists::{ArgList, Bytes};
+use crate::message::{LONGEST_MESSAGE, Message};
 use std::alloc::{AllocError, Global};
 
-// Adds a word.
+/// Adds a word.
 #[tactic(auto, unfolding(crate::specs::Building::word_bytes))]
 fn put_word(bytes: &mut Bytes, word: u32) -> Result<(), AllocError>
     ensures { OnOk result (bytes.new ≡ bytes.old ++ word_bytes word) }
@@ -18,7 +18,7 @@ fn put_word(bytes: &mut Bytes, word: u32) -> Result<(), AllocError>
     bytes.append(&word.to_le_bytes())
 }
 
-// Adds the zeros behind so many bytes.
+/// Adds the zeros behind so many bytes.
 fn put_padding(bytes: &mut Bytes, count: usize) -> Result<(), AllocError>
     ensures { OnOk result (bytes.new ≡ bytes.old ++ zeros (padding_of count)) }
 {
@@ -26,22 +26,17 @@ fn put_padding(bytes: &mut Bytes, count: usize) -> Result<(), AllocError>
     bytes.append(zeros.split_at(padding_of(count)).0)
 }
 
-// Adds an array.
+/// Adds an array.
 fn put_array(bytes: &mut Bytes, content: &[u8]) -> Result<(), AllocError>
     requires { length content.now < 65536 }
     ensures { OnOk result (bytes.new ≡ bytes.old ++ counted_bytes content.now) }
 {
-    match put_word(bytes, content.len() as u32) {
-        Ok(()) => (),
-        Err(error) => return Err(error),
-    }
-    match bytes.append(content) {
-        Ok(()) => put_padding(bytes, content.len()),
-        Err(error) => Err(error),
-    }
+    put_word(bytes, content.len() as u32)?;
+    bytes.append(content)?;
+    put_padding(bytes, content.len())
 }
 
-// Adds a string with its NUL.
+/// Adds a string with its NUL.
 fn put_string(bytes: &mut Bytes, text: &[u8]) -> Result<(), AllocError>
     requires { length text.now + 1 < 65536 }
     ensures { OnOk result (bytes.new ≡ bytes.old ++ string_bytes_of text.now) }
@@ -52,17 +47,18 @@ fn put_string(bytes: &mut Bytes, text: &[u8]) -> Result<(), AllocError>
     put_padding(bytes, text.len() + 1)
 }
 
-// Adds what `bind` names.
+/// Adds what `bind` names.
 fn put_bind(bytes: &mut Bytes, interface: &[u8], version: u32, id: u32) -> Result<(), AllocError>
     requires { length interface.now + 1 < 65536 }
-    ensures { OnOk result (bytes.new ≡ bytes.old ++ (string_bytes_of interface.now ++ (word_bytes version ++ word_bytes id))) }
+    ensures { OnOk result (bytes.new ≡ bytes.old
+        ++ (string_bytes_of interface.now ++ (word_bytes version ++ word_bytes id))) }
 {
     put_string(bytes, interface)?;
     put_word(bytes, version)?;
     put_word(bytes, id)
 }
 
-// Adds an argument.
+/// Adds an argument.
 fn put_arg(bytes: &mut Bytes, arg: &Arg) -> Result<(), AllocError>
     requires { length (arg_bytes arg.now) < 65536 }
     ensures { OnOk result (bytes.new ≡ bytes.old ++ arg_bytes arg.now) }
@@ -85,24 +81,21 @@ fn put_arg(bytes: &mut Bytes, arg: &Arg) -> Result<(), AllocError>
     }
 }
 
-// The bytes of all arguments.
+/// The bytes of all arguments.
 fn body_of(alloc: Global, args: &[Arg]) -> Result<Bytes, AllocError>
     requires { length (args_bytes args.now) < 65536 }
     ensures { IfOk result (λ body. body ≡ args_bytes args.now) }
 {
     let mut body = Bytes::new(alloc);
     'items: for arg in args {
-        match put_arg(&mut body, arg) {
-            Ok(()) => (),
-            Err(error) => return Err(error),
-        }
+        put_arg(&mut body, arg)?;
     }
     Ok(body)
 }
 
-// The header, with the size, and the arguments.
+/// The header, with the size, and the arguments.
 fn message_bytes(alloc: Global, object: u32, opcode: u16, args: &[Arg]) -> Result<Bytes, AllocError>
-    requires { 8 + length (args_bytes args.now) ≤ 65532 }
+    requires { 8 + length (args_bytes args.now) ≤ LONGEST_MESSAGE }
     ensures { IfOk result (λ bytes. bytes ≡ built object opcode args.now) }
 {
     let body = body_of(alloc, args)?;
@@ -114,18 +107,17 @@ fn message_bytes(alloc: Global, object: u32, opcode: u16, args: &[Arg]) -> Resul
     Ok(bytes)
 }
 
-/// The message for an object with these arguments, in their order and of whatever kinds; its padding is zero.
+/// The message for an object with these arguments, in their order and of whatever kinds; its
+/// padding is zero.
 ///
 /// # Errors
 /// Only where memory runs out.
 pub fn build(alloc: Global, object: u32, opcode: u16, args: &ArgList) -> Result<Message, AllocError>
-    requires { 8 + length (args_bytes args.now) ≤ 65532 }
+    requires { 8 + length (args_bytes args.now) ≤ LONGEST_MESSAGE }
     ensures { IfOk result (λ message. message ≡ built object opcode args.now) }
 {
-    match message_bytes(alloc, object, opcode, args.as_slice()) {
-        Ok(bytes) => Ok(Message::from_whole(bytes)),
-        Err(error) => Err(error),
-    }
+    let bytes = message_bytes(alloc, object, opcode, args.as_slice())?;
+    Ok(Message::from_whole(bytes))
 }
 
 #[cfg(test)]

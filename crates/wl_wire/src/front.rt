@@ -1,4 +1,4 @@
-// What stands at the front of a slice of bytes.
+//! What stands at the front of a slice of bytes.
 
 ghost use Rattle.std.specs.Prelude.{◌≡◌, ◌≤◌, ◌↔◌, [], length, IsTrue, IfOk, IfSome};
 ghost use Rattle.wl_wire.specs.Wire.{first, cut_rest, size_of};
@@ -32,7 +32,7 @@ pub fn message_size(bytes: &[u8]) -> Result<Option<usize>, WireFault>
     }
 }
 
-// The size in a header.
+/// The size in a header.
 #[tactic(auto, unfolding(crate::specs::Wire::size_of))]
 fn size_from(header: &[u8]) -> usize
     requires { 8 ≤ length header.now }

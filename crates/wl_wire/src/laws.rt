@@ -1,4 +1,4 @@
-// Laws of the wire format: each function does nothing, and its clause is the law.
+//! Laws of the wire format: each function does nothing, and its clause is the law.
 
 ghost use Rattle.wl_wire.specs.WireLaws.{FirstWaits, FirstFaults, FirstGives, FaultStays, CutAgrees, CutJoins, CutStops, CutMessage, CutNothing, CutGoesOn, CutAppends, JoinedCuts, CutFaultStays};
 

@@ -1,4 +1,4 @@
-// A whole message as its bytes.
+//! A whole message as its bytes.
 
 ghost use Rattle.std.specs.Prelude.{◌≡◌, ◌==◌, ◌+◌, ◌≤◌, length};
 ghost use Rattle.std.specs.Cmp.Lexicographic.{pointwise};
@@ -6,12 +6,15 @@ ghost use Rattle.std.specs.Cmp.Rules.{comparing};
 ghost use Rattle.std.proofs.Common.{rules};
 ghost use Rattle.wl_wire.specs.Wire.{IsMessage, object_of, opcode_of, word_at};
 
-use crate::byte_list::Bytes;
+use crate::lists::Bytes;
 use std::alloc::AllocError;
 use std::marker::Model;
 
-/// A whole message of the Wayland protocol as its bytes, header included: 8 to 65,532 of them, a multiple of four,
-/// as many as the size in its header says.
+/// The most bytes that a message has: the greatest multiple of four that the header's 16 bits hold.
+pub const LONGEST_MESSAGE: usize = 65_532;
+
+/// A whole message of the Wayland protocol as its bytes, header included: 8 to 65,532 of them, a
+/// multiple of four, as many as the size in its header says.
 #[derive(Debug, Drop)]
 pub struct Message {
     bytes: Bytes,
@@ -29,8 +32,9 @@ impl Model for Message {
 }
 
 impl Message {
-    // The message of bytes that are one.
-    pub(crate) fn from_whole(bytes: Bytes) -> Message
+    /// The message of bytes that are one: a header, and as many bytes in all as its size says.
+    /// Takes no memory.
+    pub fn from_whole(bytes: Bytes) -> Message
         requires { IsMessage bytes }
         ensures { result ≡ bytes }
     {
@@ -72,10 +76,8 @@ impl Clone for Message {
     ghost is_clone = { λ message copy. copy ≡ message };
 
     fn clone(&self) -> Result<Message, AllocError> {
-        match self.bytes.clone() {
-            Ok(bytes) => Ok(Message { bytes }),
-            Err(error) => Err(error),
-        }
+        let bytes = self.bytes.clone()?;
+        Ok(Message { bytes })
     }
 }
 

@@ -1,11 +1,12 @@
-// What arguments a message has.
+//! What arguments a message has.
 
-ghost use Rattle.std.specs.Prelude.{◌≡◌, ◌<◌, length, slice_get, Some};
+ghost use Rattle.std.specs.Prelude.{◌≡◌, ◌<◌, ◌≤◌, length, slice_get, Some};
 ghost use Rattle.wl_wire.specs.SignatureForm.{no_slots, with_slot};
 
 use std::marker::Model;
 
-/// The kinds of arguments of the wire format, with the untyped new object of `wl_registry.bind` as a kind of its own.
+/// The kinds of arguments of the wire format, with the untyped new object of `wl_registry.bind` as
+/// a kind of its own.
 #[derive(Clone, Copy, Debug, PartialEq, Eq)]
 pub enum ArgKind {
     /// A signed 32-bit number.
@@ -61,7 +62,7 @@ impl Model for Signature {
     ghost inverse_ok = { fields-form };
 }
 
-// What stands in the places that a signature doesn't use.
+/// What stands in the places that a signature doesn't use.
 const UNUSED: Slot = Slot {
     kind: ArgKind::Int,
     null: false,
@@ -92,7 +93,8 @@ impl Signature {
 
     /// How many arguments there are.
     pub fn len(&self) -> usize
-        ensures { result ≡ length self.now.slots }
+        ensures count { result ≡ length self.now.slots }
+        ensures few { result ≤ 8 }
     {
         self.len
     }

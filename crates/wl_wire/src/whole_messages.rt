@@ -1,24 +1,21 @@
-// Cuts bytes that are all there into messages.
+//! Cuts bytes that are all there into messages.
 
 ghost use Rattle.std.specs.Prelude.{◌≡◌, ◌≤◌, length, take, Ok, Some, IfOk};
 ghost use Rattle.wl_wire.specs.Wire.{first, cut};
 
-use crate::byte_list::Bytes;
 use crate::front::message_size;
+use crate::lists::{Bytes, MessageList};
 use crate::message::Message;
-use crate::message_list::MessageList;
 use std::alloc::{AllocError, Global};
 
-// The message at the front, which has so many bytes.
+/// The message at the front, which has so many bytes.
 fn front_message(alloc: Global, bytes: &[u8], size: usize) -> Result<Message, AllocError>
     requires there { size ≤ length bytes.now }
     requires whole { first bytes.now ≡ Ok (Some (take size bytes.now)) }
     ensures { IfOk result (λ message. message ≡ take size bytes.now) }
 {
-    match Bytes::from_slice(alloc, bytes.split_at(size).0) {
-        Ok(front) => Ok(Message::from_whole(front)),
-        Err(error) => Err(error),
-    }
+    let front = Bytes::from_slice(alloc, bytes.split_at(size).0)?;
+    Ok(Message::from_whole(front))
 }
 
 /// The whole messages at the front of the bytes, up to a rest or up to the first size at fault.

@@ -6,8 +6,8 @@ use Rattle.std.specs.BTreeMap.{is_at}
 use Rattle.std.specs.Map.{lookup}
 use Rattle.wp_outside.specs.Lines.{Lane, Line, fresh_line}
 
--- one direction: what was pushed, how many bytes were pulled, and, once a byte was replaced, the bytes
--- that are carried in place of those pushed
+-- one direction: what was pushed, how many bytes were pulled, and, once a byte was replaced, the
+-- bytes that are carried in place of those pushed
 pub record KeptLane : Type 0 where
   pub pushed : List ℕ
   pub given : ℕ

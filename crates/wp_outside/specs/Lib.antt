@@ -2,5 +2,6 @@ pub mod Counts
 pub mod Pieces
 pub mod Lines
 pub mod Kept
-pub mod KeptLaws
 pub mod MemoryForms
+pub mod Storing
+pub mod KeptLaws

@@ -4,6 +4,7 @@
 use Rattle.std.specs.Prelude.{◌≡◌, ◌≢◌, ℕ, Bool, true, false, List, [], ◌++◌, take, drop, slice_set}
 use Rattle.wp_outside.specs.declared.kinds.Direction.{Direction}
 use Rattle.wp_outside.specs.declared.kinds.Direction.TheVariants.{Up, Down}
+use Rattle.plain_lists.specs.Fronts.{IsFront}
 
 -- one direction of one connection
 pub record Lane : Type 0 where
@@ -43,15 +44,18 @@ change_lane Down change line = record line { down = change line.down }
 
 -- bytes pushed at the end of a lane
 abbrev pub lane_with_pushed : List ℕ → Lane → Lane
-lane_with_pushed bytes lane = record lane { pushed = lane.pushed ++ bytes; waiting = lane.waiting ++ bytes }
+lane_with_pushed bytes lane =
+    record lane { pushed = lane.pushed ++ bytes; waiting = lane.waiting ++ bytes }
 
 -- the first n waiting bytes of a lane pulled
 abbrev pub lane_with_pulled : ℕ → Lane → Lane
-lane_with_pulled n lane = record lane { pulled = lane.pulled ++ take n lane.waiting; waiting = drop n lane.waiting }
+lane_with_pulled n lane =
+    record lane { pulled = lane.pulled ++ take n lane.waiting; waiting = drop n lane.waiting }
 
 -- one waiting byte of a lane replaced, and the lane marked
 abbrev pub lane_with_spoiled : ℕ → ℕ → Lane → Lane
-lane_with_spoiled offset byte lane = record lane { waiting = slice_set lane.waiting offset byte; was_spoiled = true }
+lane_with_spoiled offset byte lane =
+    record lane { waiting = slice_set lane.waiting offset byte; was_spoiled = true }
 
 -- bytes pushed at the end of one direction
 abbrev pub pushed_onto : Direction → List ℕ → Line → Line
@@ -82,10 +86,6 @@ pub record Became (old new : ℕ → Line) (connection : ℕ) (change : Line →
 -- no connection changed
 abbrev pub Same : (old new : ℕ → Line) → Type 0
 Same old new = (connection : ℕ) → new connection ≡ old connection
-
--- the first bytes of a list are those of another
-abbrev pub IsFront : List ℕ → List ℕ → Type 0
-IsFront front whole = (rest : List ℕ) × (front ++ rest ≡ whole)
 
 -- what holds of one direction of every connection, by whether that connection is up
 pub record IsHonestLane (is_up : Bool) (lane : Lane) : Type 0 where

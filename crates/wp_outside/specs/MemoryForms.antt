@@ -22,14 +22,18 @@ is_planned plan = list_any (λ n. n == plan.call) plan.fail_at
 -- the plan after a call, by whether that call failed
 abbrev pub plan_after : Bool → Plan → Plan
 plan_after failed plan =
-    record plan { call = one_more plan.call; faults = if failed then one_more plan.faults else plan.faults }
+    record plan {
+      call = one_more plan.call;
+      faults = if failed then one_more plan.faults else plan.faults;
+    }
 
 -- a source in memory: the bytes that are left, and its plan
 pub record PlannedSource : Type 0 where
   pub left : List ℕ
   pub plan : Plan
 
--- what a read of a piece of this length answers where no call is to fail: as many bytes as there are
+-- what a read of a piece of this length answers where no call is to fail: as many bytes as there
+-- are
 abbrev pub taken_of : List ℕ → ℕ → Taken
 taken_of [] piece = End
 taken_of (first ∷ others) piece = Bytes (min piece (length (first ∷ others)))

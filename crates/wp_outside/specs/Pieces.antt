@@ -35,8 +35,8 @@ IfTold (Some bytes) P = P bytes
 abbrev pub with_front : ℕ → List ℕ → List ℕ → List ℕ
 with_front n bytes piece = take n bytes ++ drop n piece
 
--- what a source that had these bytes left gives with an answer: the first bytes, over the front of the
--- piece, and none of them at its end or a failure
+-- what a source that had these bytes left gives with an answer: the first bytes, over the front of
+-- the piece, and none of them at its end or a failure
 abbrev pub Gives : Taken → List ℕ → List ℕ → List ℕ → Type 0
 Gives (Bytes n) bytes old new = (n ≤ length bytes) × (new ≡ with_front n bytes old)
 Gives End bytes old new = (bytes ≡ []) × (new ≡ old)

@@ -1,14 +1,14 @@
-//! What a proxy meets outside itself: where bytes come from and go to, and the link between the two sides,
-//! with forms in memory and thin adapters over the standard library.
+//! What a proxy meets outside itself: where bytes come from and go to, and the link between the two
+//! sides, with forms in memory and thin adapters over the standard library.
 #![tactic(auto)]
 
+mod copying;
 mod kinds;
 mod line_stores;
 mod link_stores;
 mod memory_sinks;
 mod memory_sources;
 mod plans;
-mod rests;
 mod rooms;
 mod sinks;
 mod sources;

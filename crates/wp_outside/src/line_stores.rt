@@ -78,7 +78,7 @@ impl LinkStore for LineStore {
         }
     }
 
-    ghost use Rattle.wp_outside.specs.KeptLaws.{line_among-honest};
+    ghost use Rattle.wp_outside.specs.KeptLaws.{line_among_honest};
 
-    ghost honest = { line_among-honest };
+    ghost honest = { line_among_honest };
 }

@@ -16,13 +16,16 @@ pub trait LinkStore {
     /// Opens a connection whose number was never opened.
     fn open(&mut self, connection: u32) -> Result<(), AllocError>
         requires { (line self.old connection).was_opened ≡ false }
-        ensures ok { OnOk result (Became (line self.old) (line self.new) connection (λ _. opened_line)) }
+        ensures ok { OnOk result
+            (Became (line self.old) (line self.new) connection (λ _. opened_line)) }
         ensures err { OnErr result (Same (line self.old) (line self.new)) };
 
-    /// Pushes bytes into one direction of a connection that is open, and makes the room that all later calls need.
+    /// Pushes bytes into one direction of a connection that is open, and makes the room that all
+    /// later calls need.
     fn push(&mut self, connection: u32, dir: Direction, bytes: &[u8]) -> Result<(), AllocError>
         requires { (line self.old connection).is_up ≡ true }
-        ensures ok { OnOk result (Became (line self.old) (line self.new) connection (pushed_onto dir bytes.now)) }
+        ensures ok { OnOk result
+            (Became (line self.old) (line self.new) connection (pushed_onto dir bytes.now)) }
         ensures err { OnErr result (Same (line self.old) (line self.new)) };
 
     /// Pulls the next waiting bytes of one direction, as many as `out` holds, and answers how many.
@@ -38,8 +41,8 @@ pub trait LinkStore {
     fn cut(&mut self, connection: u32)
         ensures change { Became (line self.old) (line self.new) connection cut_line };
 
-    /// Replaces the waiting byte of one direction at an offset and answers true; where no byte waits
-    /// there, answers false and changes nothing.
+    /// Replaces the waiting byte of one direction at an offset and answers true; where no byte
+    /// waits there, answers false and changes nothing.
     fn spoil(&mut self, connection: u32, dir: Direction, offset: usize, byte: u8) -> bool
         ensures answer { let waiting = (lane_of dir (line self.old connection)).waiting in
             IsTrue result ↔ (offset < length waiting) }
@@ -47,7 +50,8 @@ pub trait LinkStore {
             (Became (line self.old) (line self.new) connection (spoiled_at dir offset byte))
             (Same (line self.old) (line self.new)) };
 
-    // What was pulled is a front of what was pushed while the lane isn't spoiled, and what is left of it waits
-    // while the connection is up; nothing waits after a cut, and a number that was never opened has nothing.
+    // What was pulled is a front of what was pushed while the lane isn't spoiled, and what is left
+    // of it waits while the connection is up; nothing waits after a cut, and a number that was
+    // never opened has nothing.
     ghost honest: { (s : Self) (connection : ℕ) → IsHonest (line s connection) };
 }

@@ -28,7 +28,11 @@ impl Model for MemorySink {
 impl MemorySink {
     /// A sink over this room. Its calls are numbered from 0, and those in `fail_at` fail.
     pub fn new(room: Vec<u8>, fail_at: Vec<u32>) -> MemorySink
-        ensures { result ≡ record { held = []; spare = room.items; plan = record { fail_at = fail_at.items; call = 0; faults = 0 } } }
+        ensures { result ≡ record {
+          held = [];
+          spare = room.items;
+          plan = record { fail_at = fail_at.items; call = 0; faults = 0 };
+        } }
     {
         MemorySink {
             room: Room::new(room),

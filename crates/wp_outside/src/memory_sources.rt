@@ -5,15 +5,16 @@ ghost use Rattle.wp_outside.specs.Counts.{Rose};
 ghost use Rattle.wp_outside.specs.Pieces.{IfBytes, MatchFailed, IsPartOf, Gives, left_after};
 ghost use Rattle.wp_outside.specs.MemoryForms.{read_answer, after_read, taken_of};
 
+use crate::copying::give_front;
 use crate::plans::CallPlan;
-use crate::rests::Rest;
 use crate::sources::{Source, Taken};
+use plain_lists::ByteQueue;
 use std::marker::Model;
 
 /// A source of given bytes, whose calls fail at given numbers.
 #[derive(Drop)]
 pub struct MemorySource {
-    rest: Rest,
+    rest: ByteQueue,
     plan: CallPlan,
 }
 
@@ -28,10 +29,13 @@ impl Model for MemorySource {
 impl MemorySource {
     /// A source of these bytes. Its calls are numbered from 0, and those in `fail_at` fail.
     pub fn new(bytes: Vec<u8>, fail_at: Vec<u32>) -> MemorySource
-        ensures { result ≡ record { left = bytes.items; plan = record { fail_at = fail_at.items; call = 0; faults = 0 } } }
+        ensures { result ≡ record {
+          left = bytes.items;
+          plan = record { fail_at = fail_at.items; call = 0; faults = 0 };
+        } }
     {
         MemorySource {
-            rest: Rest::new(bytes),
+            rest: ByteQueue::from_vec(bytes),
             plan: CallPlan::new(fail_at),
         }
     }
@@ -59,7 +63,7 @@ impl Source for MemorySource {
         if fails {
             return Taken::Failed;
         }
-        match self.rest.give(buf) {
+        match give_front(&mut self.rest, buf) {
             0 => Taken::End,
             count => Taken::Bytes(count),
         }
@@ -69,7 +73,7 @@ impl Source for MemorySource {
 /// A source of given bytes that never fails.
 #[derive(Drop)]
 pub struct CleanSource {
-    rest: Rest,
+    rest: ByteQueue,
 }
 
 impl Model for CleanSource {
@@ -86,7 +90,7 @@ impl CleanSource {
         ensures { result ≡ bytes.items }
     {
         CleanSource {
-            rest: Rest::new(bytes),
+            rest: ByteQueue::from_vec(bytes),
         }
     }
 }
@@ -106,7 +110,7 @@ impl Source for CleanSource {
         ensures kept { 0 ≤ 0 }
         ensures answer { result ≡ taken_of self.old (length buf.old) }
     {
-        match self.rest.give(buf) {
+        match give_front(&mut self.rest, buf) {
             0 => Taken::End,
             count => Taken::Bytes(count),
         }

@@ -3,7 +3,7 @@
 ghost use Rattle.std.specs.Prelude.{◌≡◌, ◌≤◌, ◌+◌, ◌-◌, [], ◌++◌, length, take, drop, min};
 ghost use Rattle.wp_outside.specs.MemoryForms.{is_full};
 
-use crate::rests::copy_front;
+use crate::copying::copy_front;
 use std::marker::Model;
 
 /// Room for bytes, of which the first `used` were written.
@@ -19,7 +19,10 @@ impl Model for Room {
 
     ghost Value = { PartlyUsed };
 
-    ghost view = { λ r. record { held = take r.used r.bytes.items; spare = drop r.used r.bytes.items } };
+    ghost view = { λ r. record {
+      held = take r.used r.bytes.items;
+      spare = drop r.used r.bytes.items;
+    } };
 
     ghost invariant = { λ r. r.used ≤ length r.bytes.items };
 }

@@ -29,6 +29,7 @@ pub trait Source {
         ensures part { IfBytes result (λ n. IsPartOf n (length buf.old)) }
         ensures content { IfTold (left self.old) (λ bytes. Gives result bytes buf.old buf.new) }
         ensures rest { left self.new ≡ left_after result (left self.old) }
-        ensures cause { MatchFailed result (Rose (faults self.old) (faults self.new)) (faults self.new ≡ faults self.old) }
+        ensures cause { MatchFailed result (Rose (faults self.old) (faults self.new))
+            (faults self.new ≡ faults self.old) }
         ensures kept { faults self.old ≤ faults self.new };
 }

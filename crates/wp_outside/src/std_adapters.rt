@@ -1,5 +1,5 @@
-//! Sources and sinks over the standard library's readers and writers. No clause can say which bytes those
-//! give and take, so these tell no content.
+//! Sources and sinks over the standard library's readers and writers. No clause can say which bytes
+//! those give and take, so these tell no content.
 
 ghost use Rattle.std.specs.Prelude.{◌≡◌, ◌≤◌, None, IfSome, length};
 
@@ -8,7 +8,7 @@ use crate::sources::{Source, Taken};
 use std::io::{ErrorKind, Read, Write};
 use std::marker::Model;
 
-// How often a read or a write that a signal interrupted is tried in all.
+/// How often a read or a write that a signal interrupted is tried in all.
 const TRIES: u32 = 16;
 
 /// A source over a reader.
@@ -82,8 +82,8 @@ impl<W: Write> Sink for StdSink<W> {
 
     ghost faults = { λ faults. faults };
 
-    /// Writes once, and again where a signal interrupted that; an error of the writer is a failure, and so
-    /// is a write that takes nothing.
+    /// Writes once, and again where a signal interrupted that; an error of the writer is a failure,
+    /// and so is a write that takes nothing.
     fn write(&mut self, bytes: &[u8]) -> Result<usize, Failed> {
         match write_some(&mut self.writer, bytes) {
             None | Some(0) => {
@@ -95,7 +95,7 @@ impl<W: Write> Sink for StdSink<W> {
     }
 }
 
-// Reads, again and again where that was interrupted; an error is None.
+/// Reads, again and again where that was interrupted; an error is None.
 fn read_some<R: Read>(reader: &mut R, buf: &mut [u8]) -> Option<usize>
     ensures { IfSome result (λ n. n ≤ length buf.old) }
 {
@@ -109,7 +109,7 @@ fn read_some<R: Read>(reader: &mut R, buf: &mut [u8]) -> Option<usize>
     None
 }
 
-// Writes, again and again where that was interrupted; an error is None.
+/// Writes, again and again where that was interrupted; an error is None.
 fn write_some<W: Write>(writer: &mut W, bytes: &[u8]) -> Option<usize>
     ensures { IfSome result (λ n. n ≤ length bytes.now) }
 {

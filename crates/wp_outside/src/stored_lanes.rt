@@ -1,39 +1,46 @@
 //! One direction of one connection, as the link store in memory keeps it.
 
-ghost use Rattle.std.specs.Prelude.{◌≡◌, ◌↔◌, ◌<◌, true, false, length, min, None, [], OnOk, OnErr, IsTrue};
+ghost use Rattle.std.specs.Prelude.{◌≡◌, ◌↔◌, ◌<◌, ◌≤◌, true, length, min, None, [], OnOk, OnErr, IsTrue};
 ghost use Rattle.std.specs.Bool.{MatchBool};
+ghost use Rattle.std.specs.Vec.{vec_capacity};
 ghost use Rattle.wp_outside.specs.Lines.{lane_with_pushed, lane_with_pulled, lane_with_spoiled};
-ghost use Rattle.wp_outside.specs.Kept.{shown_lane};
+ghost use Rattle.wp_outside.specs.Kept.{carried, shown_lane};
 ghost use Rattle.wp_outside.specs.Pieces.{with_front};
 
-use crate::rests::copy_front;
+use crate::copying::copy_front;
+use plain_lists::append_reserved;
 use std::alloc::{AllocError, Global};
 use std::marker::Model;
 
-/// What was pushed, and the same bytes as they are carried to the reader, of which some were given.
-/// Both arrays have the same length, so that a byte can be replaced without taking memory.
+/// All that was pushed, of which some was given. Nothing is dropped, since the contracts of a link
+/// speak of it.
+///
+/// The bytes are kept once. A second list has the room for them, so that a byte can be replaced
+/// without taking memory; it is written only once one is.
 #[derive(Drop)]
 pub(crate) struct StoredLane {
     pushed: Vec<u8>,
-    carried: Vec<u8>,
     given: usize,
     was_spoiled: bool,
+    // The bytes as they are carried, where one was replaced; else none.
+    replaced: Vec<u8>,
 }
 
 impl Model for StoredLane {
-    ghost use Rattle.std.specs.Prelude.{◌≡◌, ◌≤◌, false, length, None, Some, if◌then◌else◌};
+    ghost use Rattle.std.specs.Prelude.{None, Some, if◌then◌else◌};
     ghost use Rattle.wp_outside.specs.Kept.{KeptLane};
 
     ghost Value = { KeptLane };
 
+    ghost use Rattle.wp_outside.specs.Storing.{IsStored};
+
     ghost view = { λ l. record {
       pushed = l.pushed.items;
       given = l.given;
-      replaced = if l.was_spoiled then (Some l.carried.items) else None;
+      replaced = if l.was_spoiled then (Some l.replaced.items) else None;
     } };
 
-    ghost invariant = { λ l. (l.given ≤ length l.carried.items)
-        × (l.was_spoiled ≡ false → l.carried.items ≡ l.pushed.items) };
+    ghost invariant = { IsStored };
 }
 
 impl StoredLane {
@@ -43,22 +50,38 @@ impl StoredLane {
     {
         StoredLane {
             pushed: Vec::new(alloc),
-            carried: Vec::new(alloc),
             given: 0,
             was_spoiled: false,
+            replaced: Vec::new(alloc),
         }
     }
 
-    /// Adds bytes at the end of both arrays, or changes neither.
+    /// Adds bytes at the end, or changes nothing.
     pub(crate) fn push(&mut self, bytes: &[u8]) -> Result<(), AllocError>
-        ensures ok { OnOk result (shown_lane true self.new ≡ lane_with_pushed bytes.now (shown_lane true self.old)) }
+        ensures ok { OnOk result
+            (shown_lane true self.new ≡ lane_with_pushed bytes.now (shown_lane true self.old)) }
         ensures err { OnErr result (self.new ≡ self.old) }
     {
-        self.carried.reserve(bytes.len())?;
-        self.pushed.extend_from_slice(bytes)?;
-        match self.carried.extend_from_slice(bytes) {
-            Ok(()) => Ok(()),
-            Err(_) => unreachable!("the room was reserved"),
+        self.pushed.reserve(bytes.len())?;
+        if self.was_spoiled {
+            self.replaced.reserve(bytes.len())?;
+            append_reserved(&mut self.replaced, bytes);
+        } else {
+            self.replaced.reserve(self.pushed.capacity())?;
+        }
+        append_reserved(&mut self.pushed, bytes);
+        Ok(())
+    }
+
+    /// The bytes as they are carried.
+    fn carried(&self) -> &[u8]
+        ensures bytes { result.now ≡ carried self.now }
+        ensures given { self.now.given ≤ length result.now }
+    {
+        if self.was_spoiled {
+            self.replaced.as_slice()
+        } else {
+            self.pushed.as_slice()
         }
     }
 
@@ -68,7 +91,7 @@ impl StoredLane {
         ensures bytes { out.new ≡ with_front result (shown_lane true self.old).waiting out.old }
         ensures lane { shown_lane true self.new ≡ lane_with_pulled result (shown_lane true self.old) }
     {
-        let (_, waiting) = self.carried.as_slice().split_at(self.given);
+        let (_, waiting) = self.carried().split_at(self.given);
         let count = copy_front(waiting, out);
         self.given += count;
         count
@@ -81,10 +104,16 @@ impl StoredLane {
             (shown_lane true self.new ≡ lane_with_spoiled offset byte (shown_lane true self.old))
             (self.new ≡ self.old) }
     {
-        if offset >= self.carried.len() - self.given {
+        if offset >= self.pushed.len() - self.given {
             return false;
         }
-        self.carried[self.given + offset] = byte;
+        let at = self.given + offset;
+        if self.was_spoiled {
+            self.replaced[at] = byte;
+            return true;
+        }
+        append_reserved(&mut self.replaced, self.pushed.as_slice());
+        self.replaced[at] = byte;
         self.was_spoiled = true;
         true
     }

@@ -42,7 +42,8 @@ impl StoredLine {
     /// Adds bytes at the end of one direction, or changes nothing.
     pub(crate) fn push(&mut self, dir: Direction, bytes: &[u8]) -> Result<(), AllocError>
         requires { self.old.is_up ≡ true }
-        ensures ok { OnOk result (shown_line self.new ≡ pushed_onto dir bytes.now (shown_line self.old)) }
+        ensures ok { OnOk result
+            (shown_line self.new ≡ pushed_onto dir bytes.now (shown_line self.old)) }
         ensures err { OnErr result (self.new ≡ self.old) }
     {
         match dir {
@@ -53,8 +54,10 @@ impl StoredLine {
 
     /// Gives the next bytes of one direction, as many as the buffer holds, and answers how many.
     pub(crate) fn pull(&mut self, dir: Direction, out: &mut [u8]) -> usize
-        ensures count { result ≡ min (length (lane_of dir (shown_line self.old)).waiting) (length out.old) }
-        ensures bytes { out.new ≡ with_front result (lane_of dir (shown_line self.old)).waiting out.old }
+        ensures count { let waiting = (lane_of dir (shown_line self.old)).waiting in
+            result ≡ min (length waiting) (length out.old) }
+        ensures bytes { let waiting = (lane_of dir (shown_line self.old)).waiting in
+            out.new ≡ with_front result waiting out.old }
         ensures line { shown_line self.new ≡ pulled_from dir result (shown_line self.old) }
     {
         if !self.is_up {
@@ -75,7 +78,8 @@ impl StoredLine {
 
     /// Replaces the waiting byte of one direction at an offset, where one waits there.
     pub(crate) fn spoil(&mut self, dir: Direction, offset: usize, byte: u8) -> bool
-        ensures answer { IsTrue result ↔ (offset < length (lane_of dir (shown_line self.old)).waiting) }
+        ensures answer { let waiting = (lane_of dir (shown_line self.old)).waiting in
+            IsTrue result ↔ (offset < length waiting) }
         ensures line { MatchBool result
             (shown_line self.new ≡ spoiled_at dir offset byte (shown_line self.old))
             (self.new ≡ self.old) }

@@ -8,29 +8,29 @@ use std::io;
 use std::io::{Read, Write};
 use std::test::Fail;
 
-// What one read answers, and the first byte of the buffer after it.
-fn read_once<S: Source>(source: &mut S) -> (Taken, u8) {
+/// What one read answers, and the buffer after it.
+fn read_once<S: Source>(source: &mut S) -> (Taken, [u8; 4]) {
     let mut buf = [0u8; 4];
     let taken = source.read(&mut buf);
-    (taken, buf[0])
+    (taken, buf)
 }
 
 #[test]
 fn memory_source(rt: HostRuntime) -> Result<(), Fail> {
     let bytes = vec![in rt.alloc(); 5, 6, 7, 8, 9]?;
     let mut source = MemorySource::new(bytes, vec![in rt.alloc(); 1]?);
-    assert_eq!(rt; read_once(&mut source), (Taken::Bytes(4), 5));
-    assert_eq!(rt; read_once(&mut source), (Taken::Failed, 0));
-    assert_eq!(rt; read_once(&mut source), (Taken::Bytes(1), 9));
-    assert_eq!(rt; read_once(&mut source), (Taken::End, 0));
+    assert_eq!(rt; read_once(&mut source), (Taken::Bytes(4), [5, 6, 7, 8]));
+    assert_eq!(rt; read_once(&mut source), (Taken::Failed, [0; 4]));
+    assert_eq!(rt; read_once(&mut source), (Taken::Bytes(1), [9, 0, 0, 0]));
+    assert_eq!(rt; read_once(&mut source), (Taken::End, [0; 4]));
     Ok(())
 }
 
 #[test]
 fn clean_source(rt: HostRuntime) -> Result<(), Fail> {
     let mut source = CleanSource::new(vec![in rt.alloc(); 5, 6]?);
-    assert_eq!(rt; read_once(&mut source), (Taken::Bytes(2), 5));
-    assert_eq!(rt; read_once(&mut source), (Taken::End, 0));
+    assert_eq!(rt; read_once(&mut source), (Taken::Bytes(2), [5, 6, 0, 0]));
+    assert_eq!(rt; read_once(&mut source), (Taken::End, [0; 4]));
     Ok(())
 }
 
@@ -51,7 +51,7 @@ fn memory_sink(rt: HostRuntime) -> Result<(), Fail> {
     Ok(())
 }
 
-// What two pulls of two bytes answer, and the bytes of both.
+/// What two pulls of two bytes answer, and the bytes of both.
 fn pull_twice<L: LinkStore>(
     store: &mut L,
     connection: u32,
@@ -63,7 +63,7 @@ fn pull_twice<L: LinkStore>(
     (out, first, second)
 }
 
-// A store with connection 1 open, into which 1, 2 and 3 were pushed up.
+/// A store with connection 1 open, into which 1, 2 and 3 were pushed up.
 fn pushed_store(alloc: Global) -> Result<LineStore, AllocError> {
     let mut store = LineStore::new(alloc);
     store.open(1)?;
@@ -107,14 +107,19 @@ fn line_store_spoils(rt: HostRuntime) -> Result<(), Fail> {
     assert!(rt; store.spoil(1, Direction::Up, 2, 9));
     assert!(rt; !store.spoil(1, Direction::Up, 3, 9), "three bytes wait");
     assert!(rt; !store.spoil(1, Direction::Down, 0, 9), "no byte waits");
+    store.push(1, Direction::Up, &[4])?;
+    assert!(rt;
+        store.spoil(1, Direction::Up, 1, 8),
+        "a byte is spoiled already"
+    );
     assert_eq!(rt;
         pull_twice(&mut store, 1, Direction::Up),
-        ([1, 2, 9, 0], 2, 1)
+        ([1, 8, 9, 4], 2, 2)
     );
     Ok(())
 }
 
-// A reader and writer that is interrupted, moves one byte, fails, and then moves nothing.
+/// A reader and writer that is interrupted, moves one byte, fails, and then moves nothing.
 #[derive(Drop)]
 struct Flaky {
     calls: u8,
@@ -163,8 +168,8 @@ fn std_source(rt: HostRuntime) {
     assert_eq!(rt; read_once(&mut flaky).0, Taken::Failed);
     assert_eq!(rt; read_once(&mut flaky).0, Taken::End);
     let mut bytes = StdSource::new([5u8, 6].as_slice());
-    assert_eq!(rt; read_once(&mut bytes), (Taken::Bytes(2), 5));
-    assert_eq!(rt; read_once(&mut bytes), (Taken::End, 0));
+    assert_eq!(rt; read_once(&mut bytes), (Taken::Bytes(2), [5, 6, 0, 0]));
+    assert_eq!(rt; read_once(&mut bytes), (Taken::End, [0; 4]));
 }
 
 #[test]

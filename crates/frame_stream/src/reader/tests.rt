@@ -94,9 +94,11 @@ fn one_by_one(alloc: Global, bytes: &[u8]) -> Result<(usize, u64), DecodeFault> 
     Ok((count, reader.place()))
 }
 
-// A frame of each type, one behind the other.
+/// A frame of each of the twelve types, one behind the other, and then a word at fault.
 const STREAM: &str = "000200000100000000000c00020000008102000001000000feffffffffffff7f00000080\
-8201000003000000ffffffff83010000ffffffff8000000008010000f9ffffff6a010000010000006162ff00\
+8201000003000000ffffffff83010000ffffffff80000000050a000002000000400000008000000000010203\
+0405060708090a0b0c0d0e0f101112131415161718191a1b1c1d1e1f202122232425262728292a2b2c2d2e2f\
+303132333435363738393a3b3c3d3e3f08010000f9ffffff6a010000010000006162ff00\
 0b010000090000000c0100000900000090010000ffffffffffffffff\
 11040000776179706970652d73657373696f6e21001000000000000000000010120100000500000060000000";
 
@@ -104,7 +106,7 @@ const STREAM: &str = "000200000100000000000c00020000008102000001000000feffffffff
 fn byte_by_byte(rt: HostRuntime) -> Result<(), Fail> {
     let bytes = hex::decode(rt.alloc(), STREAM).ok().ok_or("hexadecimal")?;
     let (whole, bad) = bytes.as_slice().split_at(bytes.len().saturating_sub(4));
-    assert_eq!(rt; one_by_one(rt.alloc(), whole), Ok((11, whole.len() as u64)));
+    assert_eq!(rt; one_by_one(rt.alloc(), whole), Ok((12, whole.len() as u64)));
     assert_eq!(rt; bad.len(), 4);
     let fault = DecodeFault::Frame(FrameCause::SizeSmall);
     assert_eq!(rt; one_by_one(rt.alloc(), bytes.as_slice()), Err(fault));

@@ -1,8 +1,8 @@
-// Messages that cross on the link.
+//! Messages that cross on the link.
 
 use super::*;
 
-// wl_registry@2.bind(9, "wl_seat", 7, new 4).
+/// wl_registry@2.bind(9, "wl_seat", 7, new 4).
 const BIND_SEAT: [u8; 32] = [
     2, 0, 0, 0, 0, 0, 32, 0, 9, 0, 0, 0, 8, 0, 0, 0, b'w', b'l', b'_', b's', b'e', b'a', b't', 0,
     7, 0, 0, 0, 4, 0, 0, 0,

@@ -1,8 +1,8 @@
-// Messages that a proxy refuses of its peer.
+//! Messages that a proxy refuses of its peer.
 
 use super::*;
 
-// wl_registry@2.bind(9, "wl_shm", 1, new 4) and wl_shm@4.create_pool(new 5, a handle, 64).
+/// wl_registry@2.bind(9, "wl_shm", 1, new 4) and wl_shm@4.create_pool(new 5, a handle, 64).
 const BIND_SHM: [u8; 32] = [
     2, 0, 0, 0, 0, 0, 32, 0, 9, 0, 0, 0, 7, 0, 0, 0, b'w', b'l', b'_', b's', b'h', b'm', 0, 0, 1,
     0, 0, 0, 4, 0, 0, 0,

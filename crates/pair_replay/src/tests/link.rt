@@ -1,9 +1,9 @@
-// What goes over the link, byte by byte.
+//! What goes over the link, byte by byte.
 
 use super::*;
 use wp_outside::LinkStore;
 
-// One byte up, so many times.
+/// One byte up, so many times.
 fn up_by_one(lines: &mut Lines, count: usize) -> Result<(), AllocError> {
     for _ in 0..count {
         lines.add(StepKind::Send {
@@ -18,7 +18,7 @@ fn up_by_one(lines: &mut Lines, count: usize) -> Result<(), AllocError> {
     Ok(())
 }
 
-// The lines up to a frame that is made and a connection.
+/// The lines up to a frame that is made and a connection.
 fn begun(alloc: Global) -> Result<Lines, AllocError> {
     let mut lines = Lines::new(alloc);
     lines.app(&REGISTRY)?;

@@ -1,8 +1,8 @@
-// Which globals the application is shown.
+//! Which globals the application is shown.
 
 use super::*;
 
-// wl_registry@2.global(5, "wl_drm", 2) and the end of that global, then wl_registry@2.global(6, "wl_seat", 9).
+/// wl_registry@2.global(5, "wl_drm", 2) and the end of that global, then wl_registry@2.global(6, "wl_seat", 9).
 const DRM: [u8; 28] = [
     2, 0, 0, 0, 0, 0, 28, 0, 5, 0, 0, 0, 7, 0, 0, 0, b'w', b'l', b'_', b'd', b'r', b'm', 0, 0, 2,
     0, 0, 0,

@@ -1,4 +1,4 @@
-// Two threads hold a pen, an eye or a receipt by reference at once.
+//! Two threads hold a pen, an eye or a receipt by reference at once.
 
 ghost use Rattle.std.specs.Prelude.{◌≡◌};
 

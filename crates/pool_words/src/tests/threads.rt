@@ -1,4 +1,5 @@
-// One thread writes while others load.
+//! One thread writes while others load.
+
 ghost use Rattle.std.specs.Prelude.{◌≡◌, ◌≤◌};
 
 use crate::{Eye, Pen, Receipt, new_pool};
@@ -60,7 +61,8 @@ fn copies<R: Threads + Sync>(
         { write_many(pen) },
         || -> ((Receipt, bool), (Receipt, bool))
             requires { (2 ≤ left.words) × (2 ≤ right.words) }
-            ensures { (result.0.0.pool ≡ left.pool) × (result.0.0.number ≡ left.number) × (result.1.0.pool ≡ right.pool) × (result.1.0.number ≡ right.number) }
+            ensures { (result.0.0.pool ≡ left.pool) × (result.0.0.number ≡ left.number)
+                × (result.1.0.pool ≡ right.pool) × (result.1.0.number ≡ right.number) }
         { watch_both(rt, left, right) },
     );
     (pen, one, other, saw_one || saw_other)
@@ -73,7 +75,8 @@ fn watch_both<R: Threads + Sync>(
     right: Eye,
 ) -> ((Receipt, bool), (Receipt, bool))
     requires { (2 ≤ left.words) × (2 ≤ right.words) }
-    ensures { (result.0.0.pool ≡ left.pool) × (result.0.0.number ≡ left.number) × (result.1.0.pool ≡ right.pool) × (result.1.0.number ≡ right.number) }
+    ensures { (result.0.0.pool ≡ left.pool) × (result.0.0.number ≡ left.number)
+        × (result.1.0.pool ≡ right.pool) × (result.1.0.number ≡ right.number) }
 {
     join(
         rt,

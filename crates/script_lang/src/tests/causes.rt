@@ -1,8 +1,8 @@
-// Lines that are almost right, with the cause for which each is refused.
+//! Lines that are almost right, with the cause for which each is refused.
 
 use super::*;
 
-// An unknown word, an empty one too; the second word counts only behind `app` and `comp`.
+/// An unknown word, an empty one too; the second word counts only behind `app` and `comp`.
 const UNKNOWN: [&str; 14] = [
     " ",
     " connect",
@@ -20,7 +20,7 @@ const UNKNOWN: [&str; 14] = [
     "fill",
 ];
 
-// Counts of fields, and fields of another kind.
+/// Counts of fields, and fields of another kind.
 const MISFORMED: [&str; 36] = [
     "app",
     "comp",
@@ -70,7 +70,7 @@ const MISFORMED_BYTES: [&str; 7] = [
     "spoil up -1 00",
 ];
 
-// Fields that should be a number and are none.
+/// Fields that should be a number and are none.
 const NO_NUMBERS: [&str; 34] = [
     "up",
     "up ",
@@ -108,7 +108,7 @@ const NO_NUMBERS: [&str; 34] = [
     "app end -0",
 ];
 
-// Numbers outside their range, of any length.
+/// Numbers outside their range, of any length.
 const OUTSIDE: [&str; 32] = [
     "up 0",
     "up 1000000001",
@@ -144,7 +144,7 @@ const OUTSIDE: [&str; 32] = [
     "app fill 1 0 1 18446744073709551616",
 ];
 
-// Two causes in one line: the one that comes first in the order.
+/// Two causes in one line: the one that comes first in the order.
 const FIRST_CAUSES: [(&str, ScriptCause); 14] = [
     ("\tconnect", ScriptCause::Text),
     ("unknown\x7f", ScriptCause::Text),
@@ -166,8 +166,8 @@ const FIRST_CAUSES: [(&str, ScriptCause); 14] = [
 fn unknown_words(rt: HostRuntime) {
     for line in UNKNOWN {
         assert_eq!(rt;
-            fault_in(rt.alloc(), line.as_bytes()),
-            Some((1, ScriptCause::Word)),
+            read(rt.alloc(), line.as_bytes()),
+            answer(Some((1, ScriptCause::Word))),
             "{line}"
         );
     }
@@ -177,22 +177,22 @@ fn unknown_words(rt: HostRuntime) {
 fn misformed(rt: HostRuntime) {
     for line in MISFORMED {
         assert_eq!(rt;
-            fault_in(rt.alloc(), line.as_bytes()),
-            Some((1, ScriptCause::Form)),
+            read(rt.alloc(), line.as_bytes()),
+            answer(Some((1, ScriptCause::Form))),
             "{line}"
         );
     }
     for line in MISFORMED_BYTES {
         assert_eq!(rt;
-            fault_in(rt.alloc(), line.as_bytes()),
-            Some((1, ScriptCause::Form)),
+            read(rt.alloc(), line.as_bytes()),
+            answer(Some((1, ScriptCause::Form))),
             "{line}"
         );
     }
     for line in NO_NUMBERS {
         assert_eq!(rt;
-            fault_in(rt.alloc(), line.as_bytes()),
-            Some((1, ScriptCause::Form)),
+            read(rt.alloc(), line.as_bytes()),
+            answer(Some((1, ScriptCause::Form))),
             "{line}"
         );
     }
@@ -202,8 +202,8 @@ fn misformed(rt: HostRuntime) {
 fn outside_the_range(rt: HostRuntime) {
     for line in OUTSIDE {
         assert_eq!(rt;
-            fault_in(rt.alloc(), line.as_bytes()),
-            Some((1, ScriptCause::Number)),
+            read(rt.alloc(), line.as_bytes()),
+            answer(Some((1, ScriptCause::Number))),
             "{line}"
         );
     }
@@ -213,8 +213,8 @@ fn outside_the_range(rt: HostRuntime) {
 fn first_cause(rt: HostRuntime) {
     for (line, cause) in FIRST_CAUSES {
         assert_eq!(rt;
-            fault_in(rt.alloc(), line.as_bytes()),
-            Some((1, cause)),
+            read(rt.alloc(), line.as_bytes()),
+            answer(Some((1, cause))),
             "{line}"
         );
     }

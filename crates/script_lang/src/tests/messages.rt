@@ -1,4 +1,4 @@
-// Lines that are the text of a message.
+//! Lines that are the text of a message.
 
 use super::*;
 use std::test::Fail;
@@ -92,6 +92,10 @@ const ROWS: [(&str, Option<(u32, ScriptCause)>); 17] = [
 #[test]
 fn rows(rt: HostRuntime) {
     for (script, fault) in ROWS {
-        assert_eq!(rt; fault_in(rt.alloc(), script.as_bytes()), fault, "{script}");
+        assert_eq!(rt;
+            read(rt.alloc(), script.as_bytes()),
+            answer(fault),
+            "{script}"
+        );
     }
 }

@@ -1,4 +1,4 @@
-// The files and pipes that lines name.
+//! The files and pipes that lines name.
 
 use super::*;
 use std::alloc::AllocError;
@@ -35,14 +35,14 @@ const NAMES: [&str; 19] = [
 fn wrong_names(rt: HostRuntime) {
     for script in NAMES {
         assert_eq!(rt;
-            fault_in(rt.alloc(), script.as_bytes()),
-            Some((2, ScriptCause::Name)),
+            read(rt.alloc(), script.as_bytes()),
+            answer(Some((2, ScriptCause::Name))),
             "{script}"
         );
     }
 }
 
-// A greater size alone grows a file; sums are tested before names, and for each peer alone.
+/// A greater size alone grows a file; sums are tested before names, and for each peer alone.
 const SIZES: [(&str, Option<(u32, ScriptCause)>); 9] = [
     (
         "app file 1 128\napp grow 1 128",
@@ -54,27 +54,33 @@ const SIZES: [(&str, Option<(u32, ScriptCause)>); 9] = [
     ),
     ("app grow 1 64", Some((1, ScriptCause::Name))),
     (
-        "app file 1 67108864\napp file 2 67108864\napp file 3 67108864\napp file 4 67108864\ncomp file -1 64",
+        "app file 1 67108864\napp file 2 67108864\napp file 3 67108864\n\
+        app file 4 67108864\ncomp file -1 64",
         None,
     ),
     (
-        "app file 1 67108864\napp file 2 67108864\napp file 3 67108864\napp file 4 67108864\napp file 5 64",
+        "app file 1 67108864\napp file 2 67108864\napp file 3 67108864\n\
+        app file 4 67108864\napp file 5 64",
         Some((5, ScriptCause::Number)),
     ),
     (
-        "app file 1 67108864\napp file 2 67108864\napp file 3 67108864\napp file 4 67108864\napp file 4 64",
+        "app file 1 67108864\napp file 2 67108864\napp file 3 67108864\n\
+        app file 4 67108864\napp file 4 64",
         Some((5, ScriptCause::Number)),
     ),
     (
-        "app file 1 67108864\napp file 2 67108864\napp file 3 67108864\napp file 4 67108800\napp file 4 64",
+        "app file 1 67108864\napp file 2 67108864\napp file 3 67108864\n\
+        app file 4 67108800\napp file 4 64",
         Some((5, ScriptCause::Name)),
     ),
     (
-        "app file 1 67108864\napp file 2 67108864\napp file 3 67108864\napp file 4 67108736\napp file 5 64\napp grow 4 67108800",
+        "app file 1 67108864\napp file 2 67108864\napp file 3 67108864\n\
+        app file 4 67108736\napp file 5 64\napp grow 4 67108800",
         None,
     ),
     (
-        "app file 1 67108864\napp file 2 67108864\napp file 3 67108864\napp file 4 67108736\napp file 5 64\napp grow 4 67108864",
+        "app file 1 67108864\napp file 2 67108864\napp file 3 67108864\n\
+        app file 4 67108736\napp file 5 64\napp grow 4 67108864",
         Some((6, ScriptCause::Number)),
     ),
 ];
@@ -82,7 +88,11 @@ const SIZES: [(&str, Option<(u32, ScriptCause)>); 9] = [
 #[test]
 fn sums_of_sizes(rt: HostRuntime) {
     for (script, fault) in SIZES {
-        assert_eq!(rt; fault_in(rt.alloc(), script.as_bytes()), fault, "{script}");
+        assert_eq!(rt;
+            read(rt.alloc(), script.as_bytes()),
+            answer(fault),
+            "{script}"
+        );
     }
 }
 
@@ -99,11 +109,11 @@ fn segments(alloc: Global, count: u32) -> Result<Vec<u8>, AllocError> {
 #[test]
 fn number_of_segments(rt: HostRuntime) -> Result<(), Fail> {
     let most = segments(rt.alloc(), 64)?;
-    assert_eq!(rt; fault_in(rt.alloc(), most.as_slice()), None);
+    assert_eq!(rt; read(rt.alloc(), most.as_slice()), answer(None));
     let more = segments(rt.alloc(), 65)?;
     assert_eq!(rt;
-        fault_in(rt.alloc(), more.as_slice()),
-        Some((65, ScriptCause::Number))
+        read(rt.alloc(), more.as_slice()),
+        answer(Some((65, ScriptCause::Number)))
     );
     Ok(())
 }

@@ -1,4 +1,4 @@
-// Each form of line, with the ends of its ranges.
+//! Each form of line, with the ends of its ranges.
 
 use super::*;
 use std::test::Fail;

@@ -1,4 +1,4 @@
-// Whole scripts: their lines, and a client that shows a window.
+//! Whole scripts: their lines, and a client that shows a window.
 
 use super::*;
 use std::alloc::AllocError;
@@ -35,8 +35,8 @@ fn too_many_lines_go_before_a_bad_one(rt: HostRuntime) -> Result<(), Fail> {
     let lines = empty_lines(rt.alloc(), 199_999)?;
     script.extend_from_slice(lines.as_slice())?;
     assert_eq!(rt;
-        fault_in(rt.alloc(), script.as_slice()),
-        Some((1, ScriptCause::Word))
+        read(rt.alloc(), script.as_slice()),
+        answer(Some((1, ScriptCause::Word)))
     );
     script.push(b'\n')?;
     assert_eq!(rt; has_too_many(rt.alloc(), script.as_slice()), true);
@@ -58,7 +58,7 @@ fn has_too_many(alloc: Global, script: &[u8]) -> bool {
     matches!(read_script(alloc, script), Err(ScriptRead::Lines))
 }
 
-// Comments hold any bytes; lines that are skipped count.
+/// Comments hold any bytes; lines that are skipped count.
 #[test]
 fn skipped_lines(rt: HostRuntime) {
     assert_eq!(rt; last_line(rt.alloc(), b""), None);
@@ -67,16 +67,16 @@ fn skipped_lines(rt: HostRuntime) {
         Some(6)
     );
     assert_eq!(rt;
-        fault_in(rt.alloc(), b"#\n\nsettle\n\xff\n05"),
-        Some((4, ScriptCause::Text))
+        read(rt.alloc(), b"#\n\nsettle\n\xff\n05"),
+        answer(Some((4, ScriptCause::Text)))
     );
     assert_eq!(rt;
-        fault_in(rt.alloc(), b"stop\n# stop\nup 0"),
-        Some((3, ScriptCause::Number))
+        read(rt.alloc(), b"stop\n# stop\nup 0"),
+        answer(Some((3, ScriptCause::Number)))
     );
     assert_eq!(rt;
-        fault_in(rt.alloc(), b" #"),
-        Some((1, ScriptCause::Word)),
+        read(rt.alloc(), b" #"),
+        answer(Some((1, ScriptCause::Word))),
         "no comment"
     );
 }
@@ -95,8 +95,8 @@ fn count_of_digits(rt: HostRuntime) -> Result<(), Fail> {
     assert_eq!(rt; last_line(rt.alloc(), most.as_slice()), Some(1));
     let more = digits(rt.alloc(), 131_074)?;
     assert_eq!(rt;
-        fault_in(rt.alloc(), more.as_slice()),
-        Some((1, ScriptCause::Form))
+        read(rt.alloc(), more.as_slice()),
+        answer(Some((1, ScriptCause::Form)))
     );
     Ok(())
 }
@@ -167,7 +167,7 @@ fn a_client_that_shows_a_window(rt: HostRuntime) -> Result<(), Fail> {
         text.extend_from_slice(line.as_bytes())?;
         text.push(b'\n')?;
     }
-    assert_eq!(rt; fault_in(alloc, text.as_slice()), None);
+    assert_eq!(rt; read(alloc, text.as_slice()), answer(None));
     assert_eq!(rt; last_line(alloc, text.as_slice()), Some(43));
     Ok(())
 }

@@ -1,9 +1,10 @@
-// The plain program: which blocks hold a damaged byte, by one test for each rectangle, pixel and byte.
+//! The plain program: which blocks hold a damaged byte, by one test for each rectangle, pixel and
+//! byte.
+
 ghost use Rattle.std.specs.Prelude.{◌≡◌, ◌<◌, ◌^◌, ◌*◌, ◌+◌};
-ghost use Rattle.std.specs.List.{list_any};
 ghost use Rattle.surface_damage.specs.Images.{in_pixels, holds};
 ghost use Rattle.surface_damage.specs.Pixels.{place, in_span, in_rect};
-ghost use Rattle.surface_damage.specs.Views.{IsShown, covers_in};
+ghost use Rattle.surface_damage.specs.Views.{IsShown, covers_in, some_covers};
 
 use crate::rect::{Damage, Rect, Side};
 use crate::transform::Transform;
@@ -91,7 +92,7 @@ fn plain_pixel(view: View, damages: &[Damage], bx: u64, by: u64) -> bool
     requires small { (view.image.width < 2 ^ 32) × (view.image.height < 2 ^ 32) }
     requires column { bx < view.image.width }
     requires row { by < view.image.height }
-    ensures { result ≡ list_any (covers_in view bx by) damages.now }
+    ensures { result ≡ some_covers view damages.now bx by }
 {
     damages
         .iter()
@@ -101,7 +102,7 @@ fn plain_pixel(view: View, damages: &[Damage], bx: u64, by: u64) -> bool
 fn plain_byte(view: View, damages: &[Damage], at: u64) -> bool
     requires shown { IsShown view }
     requires small { (view.image.width < 2 ^ 32) × (view.image.height < 2 ^ 32) }
-    ensures { result ≡ in_pixels view.image (λ bx by. list_any (covers_in view bx by) damages.now) at }
+    ensures { result ≡ in_pixels view.image (some_covers view damages.now) at }
 {
     let image = view.image;
     if at < image.offset {
@@ -116,7 +117,7 @@ fn plain_byte(view: View, damages: &[Damage], at: u64) -> bool
 pub(crate) fn plain_block(view: View, damages: &[Damage], block: u32) -> bool
     requires shown { IsShown view }
     requires small { (view.image.width < 2 ^ 32) × (view.image.height < 2 ^ 32) }
-    ensures { result ≡ holds (in_pixels view.image (λ bx by. list_any (covers_in view bx by) damages.now)) block }
+    ensures { result ≡ holds (in_pixels view.image (some_covers view damages.now)) block }
 {
     for k in 0..64 {
         if plain_byte(view, damages, 64 * u64::from(block) + k) {

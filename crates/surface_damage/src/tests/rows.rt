@@ -1,4 +1,5 @@
-// Worked examples: the runs of the last commit.
+//! Worked examples: the runs of the last commit.
+
 use crate::Rect;
 use crate::tests::scene::{Scene, expect_runs, image, rect, run};
 use block_intervals::Blocks;
@@ -69,7 +70,8 @@ fn damage_edges(alloc: Global, rects: &[Rect]) -> Result<Blocks, AllocError> {
     Ok(last)
 }
 
-// A buffer that returns after `others` commits of another one, each with damage of its row 1, then of row 2.
+// A buffer that returns after `others` commits of another one, each with damage of its row 1, then
+// of row 2.
 pub(crate) fn returning_buffer(alloc: Global, others: u32) -> Result<Blocks, AllocError> {
     let mut scene = Scene::new(alloc)?;
     scene.attach(7);

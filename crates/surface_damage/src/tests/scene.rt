@@ -1,6 +1,6 @@
-// One surface, and requests on it.
-ghost use Rattle.std.specs.Prelude.{◌≡◌, is_some, true};
-ghost use Rattle.surface_damage.specs.Steps.{find};
+//! One surface, and requests on it.
+
+ghost use Rattle.surface_damage.specs.DueBytes.{Stands};
 
 use crate::{BufferKey, Rect, Standing, Surfaces};
 use block_intervals::{Blocks, Run};
@@ -13,7 +13,6 @@ const SURFACE: u32 = 5;
 #[derive(Drop)]
 pub(crate) struct Scene {
     surfaces: Surfaces,
-    ghost there: { is_some (find 5 surfaces) ≡ true },
 }
 
 impl Scene {
@@ -23,45 +22,47 @@ impl Scene {
         Ok(Scene { surfaces })
     }
 
-    #[tactic(auto, using(crate::proofs::StepLemmas::there_changed))]
     pub(crate) fn attach(&mut self, key: u64) {
         self.surfaces.attach(SURFACE, Some(BufferKey(key)));
     }
 
-    #[tactic(auto, using(crate::proofs::StepLemmas::there_changed))]
     pub(crate) fn scale(&mut self, scale: i32) {
         self.surfaces.set_scale(SURFACE, scale);
     }
 
-    #[tactic(auto, using(crate::proofs::StepLemmas::there_changed))]
     pub(crate) fn transform(&mut self, transform: i32) {
         self.surfaces.set_transform(SURFACE, transform);
     }
 
-    #[tactic(auto, using(crate::proofs::StepLemmas::there_changed))]
     pub(crate) fn damage(&mut self, r: Rect) -> Result<(), AllocError> {
         self.surfaces.damage(SURFACE, r)
     }
 
-    #[tactic(auto, using(crate::proofs::StepLemmas::there_changed))]
     pub(crate) fn damage_buffer(&mut self, r: Rect) -> Result<(), AllocError> {
         self.surfaces.damage_buffer(SURFACE, r)
     }
 
-    // A commit with the attached buffer, where one is attached and fits.
-    #[tactic(auto, using(crate::proofs::StepLemmas::there_changed))]
     pub(crate) fn commit(&mut self, buffer: Buffer, told: u32) -> Result<Blocks, AllocError> {
-        if self.surfaces.current(SURFACE).is_some() && fits(&buffer, told) {
-            let standing = Standing::Fits { buffer, told };
-            Ok(self.surfaces.commit(SURFACE, &standing)?.blocks)
-        } else {
-            self.commit_nothing()
-        }
+        Ok(
+            self.surfaces
+                .commit(SURFACE, &standing(buffer, told))?
+                .blocks,
+        )
     }
 
-    #[tactic(auto, using(crate::proofs::StepLemmas::there_changed))]
     pub(crate) fn commit_nothing(&mut self) -> Result<Blocks, AllocError> {
         Ok(self.surfaces.commit(SURFACE, &Standing::Nothing)?.blocks)
+    }
+}
+
+// The buffer, where it fits.
+pub(crate) fn standing(buffer: Buffer, told: u32) -> Standing
+    ensures { Stands result }
+{
+    if fits(&buffer, told) {
+        Standing::Fits { buffer, told }
+    } else {
+        Standing::Nothing
     }
 }
 

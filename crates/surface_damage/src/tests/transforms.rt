@@ -1,4 +1,6 @@
-// Every transform with every small scale, both kinds of damage: the same blocks as the plain program's.
+//! Every transform with every small scale, both kinds of damage: the same blocks as the plain
+//! program's.
+
 use crate::image::Image;
 use crate::rect::{Damage, Rect};
 use crate::tests::plain::plain_block;

@@ -9,7 +9,7 @@ use transfer_frames::FrameCause;
 use wl_wire::{ObjectFault, WireFault};
 use wp_outside::Side;
 
-// The status of a message of the application that is refused.
+/// The status of a message of the application that is refused.
 fn refused(index: u64, cause: PeerCause) -> Status {
     Status::Peer {
         side: Side::Near,
@@ -18,7 +18,7 @@ fn refused(index: u64, cause: PeerCause) -> Status {
     }
 }
 
-// Globals that are not carried are left out, and so is their end; a version is lowered.
+/// Globals that are not carried are left out, and so is their end; a version is lowered.
 #[test]
 fn hidden_globals(rt: HostRuntime) -> Result<(), Fail> {
     let script =
@@ -36,7 +36,7 @@ fn hidden_globals(rt: HostRuntime) -> Result<(), Fail> {
     Ok(())
 }
 
-// An id is free again once it was deleted, and not before.
+/// An id is free again once it was deleted, and not before.
 #[test]
 fn id_reuse(rt: HostRuntime) -> Result<(), Fail> {
     let head =
@@ -58,7 +58,7 @@ fn id_reuse(rt: HostRuntime) -> Result<(), Fail> {
     Ok(())
 }
 
-// Texts one behind another.
+/// Texts one behind another.
 fn joined(alloc: Global, texts: &[&str]) -> Result<Vec<u8>, AllocError> {
     let mut all = Vec::new(alloc);
     for text in texts {
@@ -67,7 +67,7 @@ fn joined(alloc: Global, texts: &[&str]) -> Result<Vec<u8>, AllocError> {
     Ok(all)
 }
 
-// The received message is shown with the interface that its id has on the receiver's side by then.
+/// The received message is shown with the interface that its id has on the receiver's side by then.
 #[test]
 fn id_reuse_with_another_interface(rt: HostRuntime) -> Result<(), Fail> {
     let script =
@@ -92,7 +92,7 @@ fn raw_handle(rt: HostRuntime) -> Result<(), Fail> {
     Ok(())
 }
 
-// A message whose text is a script's line, and what stands around it.
+/// A message whose text is a script's line, and what stands around it.
 fn titled(alloc: Global, letters: u32) -> Result<Vec<u8>, AllocError> {
     let mut script = Vec::from_slice(
         alloc,
@@ -105,7 +105,7 @@ fn titled(alloc: Global, letters: u32) -> Result<Vec<u8>, AllocError> {
     Ok(script)
 }
 
-// The longest title has 65,519 letters; its message has 65,532 bytes and is received.
+/// The longest title has 65,519 letters; its message has 65,532 bytes and is received.
 #[test]
 fn longest_title(rt: HostRuntime) -> Result<(), Fail> {
     let script = titled(rt.alloc(), 65_519)?;
@@ -129,7 +129,7 @@ fn longest_title(rt: HostRuntime) -> Result<(), Fail> {
     Ok(())
 }
 
-// Lines of the language that are not run yet, and lines that are none, in scripts that are fine else.
+/// Lines of the language that are not run yet, and lines that are none, in scripts that are fine else.
 #[test]
 fn refused_lines(rt: HostRuntime) -> Result<(), Fail> {
     let table = [
@@ -190,7 +190,7 @@ fn refused_lines(rt: HostRuntime) -> Result<(), Fail> {
     Ok(())
 }
 
-// What moves, and how it ends.
+/// What moves, and how it ends.
 #[test]
 fn moves(rt: HostRuntime) -> Result<(), Fail> {
     let table = [
@@ -228,7 +228,7 @@ fn moves(rt: HostRuntime) -> Result<(), Fail> {
     Ok(())
 }
 
-// The status of a frame that a proxy refuses.
+/// The status of a frame that a proxy refuses.
 fn frame_refused(reader: Reader, place: u64, cause: FrameCause) -> Status {
     Status::Frame {
         reader,
@@ -238,7 +238,7 @@ fn frame_refused(reader: Reader, place: u64, cause: FrameCause) -> Status {
     }
 }
 
-// The compositor's first message, an event of no object that the far proxy knows.
+/// The compositor's first message, an event of no object that the far proxy knows.
 #[test]
 fn far_peer(rt: HostRuntime) -> Result<(), Fail> {
     let (status, text) = replay(rt.alloc(), b"comp hex 0200000000000c0001000000\n")?;
@@ -258,8 +258,8 @@ fn far_peer(rt: HostRuntime) -> Result<(), Fail> {
     Ok(())
 }
 
-// The id is deleted on the far side while a request to its object is on its way: the far proxy refuses the frame, and
-// what it read before stays.
+/// The id is deleted on the far side while a request to its object is on its way: the far proxy refuses the frame, and
+/// what it read before stays.
 #[test]
 fn crossing_messages(rt: HostRuntime) -> Result<(), Fail> {
     let script =
@@ -279,7 +279,7 @@ fn crossing_messages(rt: HostRuntime) -> Result<(), Fail> {
     Ok(())
 }
 
-// The compositor deletes an id before it heard of it, so the near proxy forgets an object that the far one knows.
+/// The compositor deletes an id before it heard of it, so the near proxy forgets an object that the far one knows.
 #[test]
 fn near_reader(rt: HostRuntime) -> Result<(), Fail> {
     let script =
@@ -293,8 +293,8 @@ fn near_reader(rt: HostRuntime) -> Result<(), Fail> {
     Ok(())
 }
 
-// In the same way an id comes to stand for two objects: the event is one of a seat for the far proxy, and one that
-// carries a handle for the near one.
+/// In the same way an id comes to stand for two objects: the event is one of a seat for the far proxy, and one that
+/// carries a handle for the near one.
 #[test]
 fn handle_by_one_table_alone(rt: HostRuntime) -> Result<(), Fail> {
     let script =
@@ -311,7 +311,7 @@ fn handle_by_one_table_alone(rt: HostRuntime) -> Result<(), Fail> {
     Ok(())
 }
 
-// Where both proxies would refuse something, the first that is met is answered.
+/// Where both proxies would refuse something, the first that is met is answered.
 #[test]
 fn near_goes_first(rt: HostRuntime) -> Result<(), Fail> {
     let (status, _) = replay(

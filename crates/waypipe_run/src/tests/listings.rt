@@ -6,7 +6,7 @@ use std::alloc::{AllocError, Global};
 use std::test::Fail;
 use transfer_frames::FrameCause;
 
-// What the listing of a stream answers and writes.
+/// What the listing of a stream answers and writes.
 fn list(alloc: Global, stream: Vec<u8>, places: usize) -> Result<(Status, Vec<u8>), AllocError> {
     let words = vec![in alloc; String::from_str(alloc, "frames")?]?;
     run(
@@ -19,7 +19,7 @@ fn list(alloc: Global, stream: Vec<u8>, places: usize) -> Result<(Status, Vec<u8
     )
 }
 
-// The status of a fault at a place of the input.
+/// The status of a fault at a place of the input.
 fn fault(place: u64, cause: FrameCause) -> Status {
     Status::Frame {
         reader: Reader::Input,
@@ -83,7 +83,7 @@ fn frames_command(rt: HostRuntime) -> Result<(), Fail> {
     Ok(())
 }
 
-// So many bytes of a message whose header says that there are as many.
+/// So many bytes of a message whose header says that there are as many.
 fn message(alloc: Global, header: [u8; 8], length: usize) -> Result<Vec<u8>, AllocError> {
     let mut bytes = Vec::from_slice(alloc, header.as_slice())?;
     for _ in 8..length {

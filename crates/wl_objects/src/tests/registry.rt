@@ -1,4 +1,4 @@
-// Which globals a client is shown.
+//! Which globals a client is shown.
 
 ghost use Rattle.std.specs.Prelude.{◌<◌, length};
 
@@ -7,7 +7,7 @@ use crate::Objects;
 use std::alloc::Global;
 use std::test::Fail;
 
-// Passes an event of the registry and compares what is shown of it.
+/// Passes an event of the registry and compares what is shown of it.
 fn shows(
     alloc: Global,
     objects: &mut Objects,
@@ -33,7 +33,7 @@ fn shows(
     }
 }
 
-// Passes an event of the registry of which nothing is shown.
+/// Passes an event of the registry of which nothing is shown.
 fn hides(alloc: Global, objects: &mut Objects, opcode: u16, body: &[u8]) -> Result<(), Fail>
     requires { length body.now < 1000 }
 {
@@ -63,7 +63,7 @@ const REMOVE_5: &[u8] = b"\x05\0\0\0";
 
 const REMOVE_6: &[u8] = b"\x06\0\0\0";
 
-// A global that isn't carried is hidden with its end; one that is carried is shown at its version.
+/// A global that isn't carried is hidden with its end; one that is carried is shown at its version.
 #[test]
 fn hidden_globals(rt: HostRuntime) -> Result<(), Fail> {
     let mut objects = client(rt.alloc())?;
@@ -75,14 +75,14 @@ fn hidden_globals(rt: HostRuntime) -> Result<(), Fail> {
     Ok(())
 }
 
-// Lowering a version leaves all other bytes as they came, padding too.
+/// Lowering a version leaves all other bytes as they came, padding too.
 #[test]
 fn padding_stays(rt: HostRuntime) -> Result<(), Fail> {
     let mut objects = client(rt.alloc())?;
     shows(rt.alloc(), &mut objects, 0, GLOBAL_OUTPUT_7, SHOWN_OUTPUT_7)
 }
 
-// A name is hidden, shown again, and gone.
+/// A name is hidden, shown again, and gone.
 #[test]
 fn shown_again(rt: HostRuntime) -> Result<(), Fail> {
     let mut objects = client(rt.alloc())?;
@@ -92,7 +92,7 @@ fn shown_again(rt: HostRuntime) -> Result<(), Fail> {
     Ok(())
 }
 
-// What is hidden stays so where the registry is deleted and its id made anew.
+/// What is hidden stays so where the registry is deleted and its id made anew.
 #[test]
 fn registry_made_anew(rt: HostRuntime) -> Result<(), Fail> {
     let mut objects = client(rt.alloc())?;

@@ -1,4 +1,4 @@
-// How many objects there may be.
+//! How many objects there may be.
 
 use super::{DOWN, UP, refuse, send};
 use crate::Objects;
@@ -6,7 +6,8 @@ use std::test::Fail;
 use wl_tables::Interface;
 use wl_wire::ObjectFault;
 
-// With the display there are 65,536 entries; the next is refused, and a deleted one makes room for one.
+/// With the display there are 65,536 entries; the next is refused, and a deleted one makes room for
+/// one.
 #[test]
 fn most_objects(rt: HostRuntime) -> Result<(), Fail> {
     let mut objects = Objects::new(rt.alloc())?;

@@ -1,4 +1,4 @@
-// Every message of the table is built, read and tracked.
+//! Every message of the table is built, read and tracked.
 
 use crate::Objects;
 use std::alloc::{AllocError, Global};
@@ -6,7 +6,7 @@ use std::test::Fail;
 use wl_tables::{Interface, Way, interface_name, max_version, new_interface, signature};
 use wl_wire::{Arg, ArgKind, ArgList, Bytes, Signature, Slot, args, build, fits_message};
 
-// Each interface behind those that make its objects, with the id that its object has here.
+/// Each interface behind those that make its objects, with the id that its object has here.
 static PLACES: [(Interface, u32); 25] = [
     (Interface::WlDisplay, 1),
     (Interface::WlRegistry, 2),
@@ -35,21 +35,21 @@ static PLACES: [(Interface, u32); 25] = [
     (Interface::XdgPopup, 24),
 ];
 
-// How many messages the table has.
+/// How many messages the table has.
 const ROWS: u32 = 155;
 
-// What a message says where the table leaves it open.
+/// What a message says where the table leaves it open.
 #[derive(Clone, Copy)]
 struct Said {
-    // What `bind` names.
+    /// What `bind` names.
     bound: Interface,
-    // The id of the new object.
+    /// The id of the new object.
     id: u32,
-    // Whether strings and objects are null where they may be.
+    /// Whether strings and objects are null where they may be.
     null: bool,
 }
 
-// The id of an interface's object.
+/// The id of an interface's object.
 fn place_of(interface: Interface) -> u32 {
     for (other, id) in &PLACES {
         if *other == interface {
@@ -63,7 +63,7 @@ fn way_of(events: bool) -> Way {
     if events { Way::Event } else { Way::Request }
 }
 
-// An argument for a slot.
+/// An argument for a slot.
 fn value(alloc: Global, slot: Slot, said: Said) -> Result<Arg, AllocError> {
     let is_null = slot.null && said.null;
     match slot.kind {
@@ -90,7 +90,7 @@ fn value(alloc: Global, slot: Slot, said: Said) -> Result<Arg, AllocError> {
     }
 }
 
-// An argument for each slot of a row.
+/// An argument for each slot of a row.
 fn values(alloc: Global, row: &Signature, said: Said) -> Result<ArgList, AllocError> {
     let mut list = ArgList::new(alloc);
     for i in 0..row.len() {
@@ -99,7 +99,8 @@ fn values(alloc: Global, row: &Signature, said: Said) -> Result<ArgList, AllocEr
     Ok(list)
 }
 
-// Builds the message of a row, reads it and passes it, and compares what is found with what was said.
+/// Builds the message of a row, reads it and passes it, and compares what is found with what was
+/// said.
 fn send(
     alloc: Global,
     objects: &mut Objects,
@@ -127,7 +128,7 @@ fn send(
     Ok(())
 }
 
-// Makes the objects that the messages of an interface's object make, where they aren't there yet.
+/// Makes the objects that the messages of an interface's object make, where they aren't there yet.
 fn grow(
     alloc: Global,
     objects: &mut Objects,
@@ -155,7 +156,7 @@ fn grow(
     Ok(())
 }
 
-// Binds a global, if the interface is one.
+/// Binds a global, if the interface is one.
 fn bind(alloc: Global, objects: &mut Objects, interface: Interface) -> Result<(), Fail> {
     let said = Said {
         bound: interface,
@@ -171,7 +172,7 @@ fn bind(alloc: Global, objects: &mut Objects, interface: Interface) -> Result<()
     }
 }
 
-// A connection with an object of each interface, which messages made.
+/// A connection with an object of each interface, which messages made.
 fn all_live(alloc: Global) -> Result<Objects, Fail> {
     let mut objects = Objects::new(alloc)?;
     for (interface, _) in &PLACES {
@@ -182,7 +183,7 @@ fn all_live(alloc: Global) -> Result<Objects, Fail> {
     Ok(objects)
 }
 
-// The interface of the new object of a row.
+/// The interface of the new object of a row.
 fn made_by(interface: Interface, events: bool, opcode: u16, bound: Interface) -> Option<Interface> {
     if interface == Interface::WlRegistry && !events {
         Some(bound)
@@ -191,7 +192,7 @@ fn made_by(interface: Interface, events: bool, opcode: u16, bound: Interface) ->
     }
 }
 
-// Passes the message of a row to its live object, and compares which objects live afterwards.
+/// Passes the message of a row to its live object, and compares which objects live afterwards.
 fn tracks(
     alloc: Global,
     interface: Interface,
@@ -221,7 +222,8 @@ fn tracks(
     Ok(())
 }
 
-// Passes each message of an interface and a way, with values and with nulls, and tells how many there are.
+/// Passes each message of an interface and a way, with values and with nulls, and tells how many
+/// there are.
 fn tracks_all(alloc: Global, interface: Interface, events: bool) -> Result<u16, Fail> {
     for opcode in 0..u16::MAX {
         match signature(interface, events, opcode) {

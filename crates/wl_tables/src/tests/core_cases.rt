@@ -1,4 +1,4 @@
-// The messages of wayland.xml, as its files list them.
+//! The messages of wayland.xml, as its files list them.
 
 use super::Case;
 use crate::interface::Interface::{

@@ -1,4 +1,4 @@
-// The messages of the stable xdg-shell, as its file lists them.
+//! The messages of the stable xdg-shell, as its file lists them.
 
 use super::Case;
 use crate::interface::Interface::{XdgPopup, XdgPositioner, XdgSurface, XdgToplevel, XdgWmBase};

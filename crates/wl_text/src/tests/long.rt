@@ -1,4 +1,4 @@
-// The longest message.
+//! The longest message.
 
 use super::{UP, again};
 use crate::{TextFault, read_message};
@@ -6,7 +6,7 @@ use std::alloc::{AllocError, Global};
 use std::test::Fail;
 use wl_wire::Text;
 
-// The text of a title with so many letters.
+/// The text of a title with so many letters.
 fn title(alloc: Global, letters: u32) -> Result<Text, AllocError> {
     let mut line = Text::new(alloc);
     line.append(b"xdg_toplevel@8.set_title(\"")?;

@@ -1,4 +1,4 @@
-// Lines that are nearly texts of messages.
+//! Lines that are nearly texts of messages.
 
 use super::{DOWN, UP};
 use crate::{TextFault, read_message};
@@ -79,7 +79,7 @@ fn near_misses_are_no_texts(rt: HostRuntime) {
     }
 }
 
-// Bytes that are no ASCII, and control bytes, stand in a string by their escapes alone.
+/// Bytes that are no ASCII, and control bytes, stand in a string by their escapes alone.
 #[test]
 fn raw_bytes_are_no_texts(rt: HostRuntime) {
     for line in [

@@ -1,4 +1,4 @@
-// Texts with the bytes of their messages and the numbers of their handles.
+//! Texts with the bytes of their messages and the numbers of their handles.
 
 use super::{DOWN, UP, again};
 use std::test::Fail;

@@ -1,4 +1,4 @@
-// A message of each row of the table.
+//! A message of each row of the table.
 
 use super::{DOWN, UP, again};
 use crate::read_message;
@@ -35,7 +35,7 @@ static INTERFACES: [Interface; 25] = [
     Interface::XdgPopup,
 ];
 
-// The text of an argument for a place.
+/// The text of an argument for a place.
 fn argument(slot: Slot) -> &'static [u8] {
     match (slot.kind, slot.null) {
         (ArgKind::Int, _) => b"-5",
@@ -52,7 +52,7 @@ fn argument(slot: Slot) -> &'static [u8] {
     }
 }
 
-// The text of a message with such arguments.
+/// The text of a message with such arguments.
 fn line_of(
     alloc: Global,
     interface: Interface,
@@ -74,7 +74,8 @@ fn line_of(
     Ok(line)
 }
 
-// Whether a line is read as a message of this opcode and printed, and its print read as the same message.
+/// Whether a line is read as a message of this opcode and printed, and its print read as the same
+/// message.
 fn is_read(alloc: Global, line: &Text, interface: Interface, way: Way, opcode: u16) -> bool {
     match again(alloc, line.as_slice(), way) {
         Ok((it, text)) => match read_message(alloc, text.as_slice(), way) {
@@ -88,7 +89,7 @@ fn is_read(alloc: Global, line: &Text, interface: Interface, way: Way, opcode: u
     }
 }
 
-// How many messages of a way an interface has, each of which is read and printed.
+/// How many messages of a way an interface has, each of which is read and printed.
 fn rows_of(alloc: Global, interface: Interface, way: Way) -> Result<u32, Fail> {
     let events = way == DOWN;
     let mut rows = 0u32;

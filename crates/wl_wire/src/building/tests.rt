@@ -7,7 +7,7 @@ use crate::whole_messages::cut_messages;
 use std::process::Abort;
 use std::test::Fail;
 
-// `wl_registry.bind` of `wl_shm`, version 1, as object 3.
+/// `wl_registry.bind` of `wl_shm`, version 1, as object 3.
 const BIND: [u8; 32] = [
     2, 0, 0, 0, 0, 0, 32, 0, 1, 0, 0, 0, 7, 0, 0, 0, b'w', b'l', b'_', b's', b'h', b'm', 0, 0, 1,
     0, 0, 0, 3, 0, 0, 0,
@@ -60,16 +60,25 @@ fn bind_is_built(rt: HostRuntime) -> Result<(), Fail> {
     Ok(())
 }
 
-// What is at fault where the message has an object that may not be null, and then a string.
-fn fault_of(rt: &impl Abort, alloc: Global, message: &[u8]) -> Option<MessageFault> {
+/// How many arguments the message has, or its first fault: an object that may not be null, and then a string.
+fn object_and_string(
+    rt: &impl Abort,
+    alloc: Global,
+    message: &[u8],
+) -> Result<usize, MessageFault> {
     let signature = Signature::new(false)
         .with(place(ArgKind::Object, false))
         .with(place(ArgKind::Str, false));
-    args(alloc, &signature, &message_of(rt, alloc, message)).err()
+    let list = args(alloc, &signature, &message_of(rt, alloc, message))?;
+    Ok(list.len())
 }
 
 #[test]
 fn first_fault_of_the_arguments(rt: HostRuntime) {
+    let good = [
+        1, 0, 0, 0, 0, 0, 20, 0, 5, 0, 0, 0, 2, 0, 0, 0, b'a', 0, 0, 0,
+    ];
+    assert_eq!(rt; object_and_string(&rt, rt.alloc(), &good), Ok(2));
     let cases: [(&[u8], WireFault); 6] = [
         (&[1, 0, 0, 0, 0, 0, 8, 0], WireFault::ArgShort),
         (
@@ -99,8 +108,8 @@ fn first_fault_of_the_arguments(rt: HostRuntime) {
     ];
     for (message, fault) in cases {
         assert_eq!(rt;
-            fault_of(&rt, rt.alloc(), message),
-            Some(MessageFault::Wire(fault))
+            object_and_string(&rt, rt.alloc(), message),
+            Err(MessageFault::Wire(fault))
         );
     }
 }

@@ -3,12 +3,12 @@ use crate::faults::WireFault;
 use std::process::Abort;
 use std::test::Fail;
 
-// `wl_display.sync` with the new object 3, and `wl_surface.commit` of the object 7.
+/// `wl_display.sync` with the new object 3, and `wl_surface.commit` of the object 7.
 const SYNC: [u8; 12] = [1, 0, 0, 0, 0, 0, 12, 0, 3, 0, 0, 0];
 
 const COMMIT: [u8; 8] = [7, 0, 0, 0, 6, 0, 8, 0];
 
-// The message that the reader gives now.
+/// The message that the reader gives now.
 fn next(rt: &impl Abort, framer: &mut Framer) -> Message {
     framer
         .next_message()
@@ -28,6 +28,7 @@ fn two_messages_in_one_piece(rt: HostRuntime) -> Result<(), Fail> {
     let commit = next(&rt, &mut framer);
     assert_eq!(rt; (commit.object(), commit.opcode()), (7, 6));
     assert_eq!(rt; commit.bytes(), COMMIT.as_slice());
+    assert!(rt; commit.clone()? == commit);
     assert_eq!(rt; framer.next_message()?.is_none(), true);
     Ok(())
 }
@@ -36,6 +37,7 @@ fn two_messages_in_one_piece(rt: HostRuntime) -> Result<(), Fail> {
 fn pieces_of_one_byte(rt: HostRuntime) -> Result<(), Fail> {
     let mut framer = Framer::new(rt.alloc());
     for byte in SYNC {
+        assert!(rt; !framer.stands());
         assert_eq!(rt; framer.next_message()?.is_none(), true);
         framer.feed(&[byte])?;
     }
@@ -44,7 +46,7 @@ fn pieces_of_one_byte(rt: HostRuntime) -> Result<(), Fail> {
     Ok(())
 }
 
-// What a reader answers at a header of this size, before its last byte and with it.
+/// What a reader answers at a header of this size, before its last byte and with it.
 fn answers_at(
     rt: &impl Abort,
     framer: &mut Framer,
@@ -82,6 +84,7 @@ fn sizes_at_fault(rt: HostRuntime) -> Result<(), Fail> {
         let mut framer = Framer::new(rt.alloc());
         let first = answers_at(&rt, &mut framer, size).err();
         assert_eq!(rt; first, Some(MessageFault::Wire(fault)), "at size {size}");
+        assert!(rt; framer.stands());
         framer.feed(&SYNC)?;
         let again = framer.next_message().err();
         assert_eq!(rt;

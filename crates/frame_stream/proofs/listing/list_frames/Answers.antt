@@ -1,4 +1,4 @@
-use Rattle.std.proofs.Common.{◌≡◌, ℕ, ◌+◌, Option, Ok, Err, None, length, sym, ap, subst, ◌∙◌}
+use Rattle.std.proofs.Common.{◌≡◌, ℕ, ◌+◌, List, ◌++◌, Option, Ok, Err, None, length, sym, ap, subst, ◌∙◌}
 use Rattle.std.specs.Prelude.{IfSome}
 use Rattle.transfer_frames.specs.declared.frame.Frame.{Frame}
 use Rattle.transfer_frames.specs.declared.cause.FrameCause.{FrameCause}
@@ -6,7 +6,7 @@ use Rattle.transfer_frames.specs.declared.cause.DecodeFault.{DecodeFault}
 use Rattle.transfer_frames.specs.Front.{front, Answers, Takes}
 use Rattle.frame_stream.specs.declared.listing.StreamEnd.TheVariants.{Fault}
 use Rattle.frame_stream.specs.Listing.{IsListing}
-use Rattle.frame_stream.proofs.ListingLaws.{Listed, shorter, listed-none, listed-more, listed-rest, listed-fault}
+use Rattle.frame_stream.proofs.ListingLaws.{Listed, ended, shorter, listed-none, listed-more, listed-rest, listed-fault}
 use Rattle.frame_stream.proofs.listing.list_frames.Goals as goal
 
 pub frames-init : goal.frames-init
@@ -20,7 +20,7 @@ frames-smaller c =
 pub frames-preserved : goal.frames-preserved
 frames-preserved c =
     let takes = subst (λ (found : Option (Frame × ℕ)). IfSome found (λ x. Takes c.split_at.result.1.now x.0 x.1)) c.in-Ok-Some.field-0-is c.in-Ok-Some.ensures.taken in
-    subst (Listed c.args.bytes.now (c.frames.place + c.in-Ok-Some.length)) (sym c.in_ok-put_line-in-Ok-Some.ensures)
+    subst (Listed c.args.bytes.now (c.frames.place + c.in-Ok-Some.length)) (sym (c.in_ok-lines-in-Ok-Some.ensures ∙ ap (λ (text : List ℕ). text ++ ended c.frames.place c.in-Ok-Some.frame) c.reserve.ensures))
     (listed-more c.args.bytes.now c.frames.place c.frames.lines c.in-Ok-Some.frame c.in-Ok-Some.length c.frames.invariant (rw (sym c.split_at.ensures.back) takes))
 
 pub returns-in-Ok-None : goal.returns-in-Ok-None

@@ -1,5 +1,8 @@
-use Rattle.pair_model.proofs.Standing.{idle_no_front}
+use Rattle.pair_model.proofs.Idling.{chosen_idle, idle_no_front}
 use Rattle.pair_model.proofs.laws.idle_has_no_front.Goals as goal
 
-pub returns : goal.returns
-returns c = idle_no_front
+pub returns-clause-chosen : goal.returns-clause-chosen
+returns-clause-chosen c = chosen_idle
+
+pub returns-clause-front : goal.returns-clause-front
+returns-clause-front c = idle_no_front

@@ -1,4 +1,4 @@
-use Rattle.pair_model.proofs.Standing.{sent_stands, fed_stands, read_stands, ack_stands, next_stands, made_stands}
+use Rattle.pair_model.proofs.Standing.{sent_stands, fed_stands, read_stands, chosen_stands, made_stands}
 use Rattle.pair_model.proofs.laws.steps_stand.Goals as goal
 
 pub returns-clause-sent : goal.returns-clause-sent
@@ -10,11 +10,8 @@ returns-clause-fed c = fed_stands
 pub returns-clause-read : goal.returns-clause-read
 returns-clause-read c = read_stands
 
-pub returns-clause-ack : goal.returns-clause-ack
-returns-clause-ack c = ack_stands
-
-pub returns-clause-next : goal.returns-clause-next
-returns-clause-next c = next_stands
+pub returns-clause-chosen : goal.returns-clause-chosen
+returns-clause-chosen c = chosen_stands
 
 pub returns-clause-made : goal.returns-clause-made
 returns-clause-made c = made_stands

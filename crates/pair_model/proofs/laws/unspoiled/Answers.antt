@@ -1,4 +1,4 @@
-use Rattle.pair_model.proofs.NoRefusal.{unspoiled}
+use Rattle.pair_model.proofs.Unspoiling.{unspoiled}
 use Rattle.pair_model.proofs.laws.unspoiled.Goals as goal
 
 pub returns : goal.returns

@@ -1,10 +1,10 @@
 use Rattle.std.proofs.Common.{rules}
 use Rattle.wl_text.specs.Decimals.{number_at}
-use Rattle.wl_text.proofs.Digits.{front-digits}
+use Rattle.wl_text.proofs.Digits.{front_digits}
 use Rattle.wl_text.proofs.decimals.number_at.Goals as goal
 
 pub word_of-requires : goal.word_of-requires
-word_of-requires c = let h = front-digits c.args.text.now in rw (c.split_at.ensures.front, c.digit_count.ensures.count) h
+word_of-requires c = let h = front_digits c.args.text.now in rw (c.split_at.ensures.front, c.digit_count.ensures.count) h
 
 pub returns-in_err-number : goal.returns-in_err-number
 unfolding number_at

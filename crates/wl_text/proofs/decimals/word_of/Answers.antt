@@ -5,15 +5,15 @@ use Rattle.std.proofs.lemmas.Str.Parse.{digit_from_value}
 use Rattle.std.specs.Char.{digit_value}
 use Rattle.std.specs.Str.Parse.{AllDigits, digits_value, digits_value_after}
 use Rattle.wl_text.specs.Decimals.{word_of}
-use Rattle.wl_text.proofs.Digits.{value-grows, word_of-large, word_of-small}
+use Rattle.wl_text.proofs.Digits.{value_grows, word_of_large, word_of_small}
 use Rattle.wl_text.proofs.decimals.word_of.Goals as goal
 
 -- with one digit more than 32 bits hold, the number is larger still
 large : (digits : List ℕ) (word i : ℕ) → i < length digits → digits_value 10 digits ≡ digits_value_after 10 word (drop i digits) → 2 ^ 32 ≤ word * 10 + digit_value (get_or digits i 0) → None ≡ word_of digits
 large digits word i inside complete over =
     let next = at_drop_more (digits_value_after 10 word) digits i 0 inside in
-    let grows = value-grows (word * 10 + digit_value (get_or digits i 0)) (drop (i + 1) digits) in
-    word_of-large digits (omega (arith, complete, next, grows))
+    let grows = value_grows (word * 10 + digit_value (get_or digits i 0)) (drop (i + 1) digits) in
+    word_of_large digits (omega (arith, complete, next, grows))
 
 pub returns-in_err-checked_mul : goal.returns-in_err-checked_mul
 returns-in_err-checked_mul c =
@@ -32,4 +32,4 @@ returns-in_err-word c =
 pub returns : goal.returns
 returns c =
     let behind = drop_all c.digits.digit-index c.args.digits.now (omega arith) in
-    word_of-small c.args.digits.now c.digits.word (c.digits.invariant.complete ∙ ap (digits_value_after 10 c.digits.word) behind) c.digits.invariant.small
+    word_of_small c.args.digits.now c.digits.word (c.digits.invariant.complete ∙ ap (digits_value_after 10 c.digits.word) behind) c.digits.invariant.small

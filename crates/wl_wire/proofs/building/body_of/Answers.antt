@@ -10,7 +10,7 @@ put_arg-requires c =
 
 pub items-preserved : goal.items-preserved
 items-preserved c =
-    c.in-Ok.ensures ∙ ap (λ body. body ++ arg_bytes c.arg-item.result) c.items.invariant
+    c.in_ok-put_arg.ensures ∙ ap (λ body. body ++ arg_bytes c.arg-item.result) c.items.invariant
     ∙ sym (args_bytes-next c.args.args.now c.items.arg-index c.arg-item.result c.items-test.true c.arg-item.is)
 
 pub returns : goal.returns

@@ -1,14 +1,14 @@
 use Rattle.std.proofs.Common.{sym, arith, ap, ◌∙◌, ◌≡◌, ◌<◌, ◌-◌, ℕ, List, length, get_or, set, take, subst}
 use Rattle.block_intervals.specs.declared.run.Run.{Run}
 use Rattle.block_intervals.specs.Sets.{hull_of, Rises}
-use Rattle.block_intervals.proofs.SetLemmas.{hull-rises, hull-is, last-at}
+use Rattle.block_intervals.proofs.SetLemmas.{hull-rises, hull_is, last_at}
 use Rattle.block_intervals.proofs.blocks.Blocks.hull.Goals as goal
 
 -- the runs that are written are the hull
 whole : (runs new : List Run) (count : ℕ) (x y : Run) → new ≡ take 1 runs → count ≡ length runs → 0 < count → x ≡ get_or runs 0 x → y ≡ get_or runs (count - 1) y → set new 0 (record { first = x.first; end = y.end }) ≡ hull_of runs
 whole runs new count x y cut counted some first last =
     ap (λ (t : List Run). set t 0 (record { first = x.first; end = y.end })) cut
-    ∙ hull-is runs x y x (omega arith) (sym first) (sym (last-at runs count y x counted some last))
+    ∙ hull_is runs x y x (omega arith) (sym first) (sym (last_at runs count y x counted some last))
 
 pub invariant_of-self : goal.invariant_of-self
 invariant_of-self c =

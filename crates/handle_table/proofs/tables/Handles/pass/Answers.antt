@@ -1,13 +1,17 @@
-use Rattle.std.proofs.Common.{ℤ, ℕ, Option, Bool, true, ◌&&◌, ◌∙◌, ap, w32, refl, ◌≡◌, position}
+use Rattle.std.proofs.Common.{◌≡◌, Bool, ◌&&◌, List, Some, ◌∙◌, ap, sym, subst, refl}
+use Rattle.std.specs.Prelude.{IsSome}
 use Rattle.std.specs.Ordering.{int_eq}
-use Rattle.std.proofs.lemmas.Int.{to_z-of_z}
+use Rattle.indexmap.specs.IndexSet.{insert_key}
 use Rattle.wp_outside.specs.declared.kinds.HandleKind.{HandleKind}
 use Rattle.wp_outside.specs.declared.kinds.HandleKind.TheVariants.{File, PipeWrite}
 use Rattle.handle_table.specs.declared.handles.Handle.{Handle}
-use Rattle.handle_table.specs.Table.{Table, answer_at, pass_answer, rid_at, is_handle, is_kind}
+use Rattle.handle_table.specs.Table.{Table, is_handle, is_kind, seat_for, after_pass}
+use Rattle.handle_table.specs.Sound.{IsSound}
 use Rattle.handle_table.specs.contracts.handles.HandlePartialEq.TheImpl.{eq-value}
 use Rattle.wp_outside.specs.contracts.kinds.HandleKind.{the_type}
 use denote.Enum.Bare.{sameb}
+use Rattle.handle_table.proofs.Places.{inserted_found}
+use Rattle.handle_table.proofs.Rids.{sound_lasts}
 use Rattle.handle_table.proofs.tables.Handles.pass.Goals as goal
 
 -- the derived comparison of kinds
@@ -18,16 +22,23 @@ same_kind PipeWrite File = refl
 same_kind PipeWrite PipeWrite = refl
 
 -- the derived comparison of handles
-same_handle : (h : Handle) → eq-value.it h ≡ is_handle h
-same_handle h = λ j other. int_eq h.number other.number && same_kind h.kind other.kind j
+same_handle : eq-value.it ≡ is_handle
+same_handle = λ j h other. int_eq h.number other.number && same_kind h.kind other.kind j
 
-pub returns-in_ok-insert-in-None-clause-answer : goal.returns-in_ok-insert-in-None-clause-answer
-returns-in_ok-insert-in-None-clause-answer c =
+pub returns-in_ok-insert-in-Some-clause-after : goal.returns-in_ok-insert-in-Some-clause-after
+returns-in_ok-insert-in-Some-clause-after c =
     let inside = c.self.inside in
-    let table : Table = record { side = inside.side; passed = inside.passed.keys; kept = inside.kept.entries } in
-    let unpassed = c.in-None.ensures.index ∙ ap (λ (test : Handle → Bool). position test inside.passed.keys) (same_handle c.args.h) in
-    ap (λ (rid : ℤ). let answer : ℤ × Bool = (rid, true) in answer)
-    (to_z-of_z w32 c.rid_at-in-None.result (record { sfits = c.rid_at-in-None.type_inv }) ∙ c.rid_at-in-None.ensures
-    ∙ ap (rid_at inside.side) c.len-place.ensures.len)
-    ∙ ap (λ (place : Option ℕ). answer_at table place) unpassed
-    ∙ ap (λ (seen : Table). pass_answer seen c.args.h) c.self.view_is
+    ap (λ (passed : List Handle). let table : Table = record { side = inside.side; passed = passed; kept = inside.kept.entries } in table)
+    (c.in_ok-insert-in-Some.ensures.keys
+    ∙ ap (λ (eq : Handle → Handle → Bool). insert_key eq inside.passed.keys c.args.h) same_handle
+    ∙ inserted_found inside.passed.keys c.args.h)
+    ∙ ap (λ (table : Table). after_pass table c.args.h) c.self.view_is
+
+pub returns-in_ok-insert-in-Some-clause-sound : goal.returns-in_ok-insert-in-Some-clause-sound
+returns-in_ok-insert-in-Some-clause-sound c =
+    let found : seat_for c.args.self.now c.args.h ≡ Some c.in-Some.seat = sym c.foresee.ensures.seat ∙ c.in-Some.is in
+    let room : IsSome (seat_for c.args.self.now c.args.h) = subst IsSome (sym found) refl in
+    subst IsSound (sym (returns-in_ok-insert-in-Some-clause-after c)) (sound_lasts.pass c.args.self.now c.args.h room c.foresee.ensures.sound)
+
+pub invariant_of-self-in-Some : goal.invariant_of-self-in-Some
+invariant_of-self-in-Some c = returns-in_ok-insert-in-Some-clause-sound c

@@ -1,13 +1,18 @@
-use Rattle.std.proofs.Common.{◌≡◌, None, refl, ap, ◌∙◌, sym}
+use Rattle.std.proofs.Common.{sym, ap, ◌∙◌}
 use Rattle.wl_tables.specs.Messages.{handle_kind}
-use Rattle.wl_objects.specs.Tracking.{is_event}
-use Rattle.replay_model.specs.Passing.{refusal_of}
-use Rattle.pair_replay.proofs.PassingLemmas.{no_handle}
+use Rattle.wl_tables.specs.Ways.{is_event}
+use Rattle.pair_replay.proofs.PassingLemmas.{tracked_as, no_handle, a_handle}
 use Rattle.pair_replay.proofs.passing.Passing.admit.Goals as goal
 
 pub returns-in-None-clause-exact : goal.returns-in-None-clause-exact
 returns-in-None-clause-exact c =
-    let it = c.in-Ok.passed in
-    let none : handle_kind it.interface (is_event c.args.way) it.opcode ≡ None =
-    ap (λ e. handle_kind it.interface e it.opcode) (sym c.is_event.ensures) ∙ sym c.handle_kind.ensures ∙ c.in-None.is in
-    (record { passed = it; objects = c.pass.new.self.tracked }, (c.in-Ok.ensures.exact, ap (refusal_of c.args.way) c.in-Ok.ensures.exact ∙ no_handle c.args.way it c.pass.new.self.tracked none, refl, refl))
+    let told = c.in-Ok.ensures.exact in
+    let done = tracked_as c.passed_by_the_table.ensures c.args.way _ _ c.args.message.now c.in-Ok.interface told in
+    let kind = sym c.in-None.is ∙ c.handle_kind.ensures ∙ ap (λ e. handle_kind c.in-Ok.interface e c.opcode.result) c.is_event.ensures ∙ ap (handle_kind c.in-Ok.interface (is_event c.args.way)) c.opcode.ensures in
+    (done.0, (done.1, no_handle c.passed_by_the_table.ensures c.args.way _ _ c.args.message.now c.in-Ok.interface told kind, done.2, done.3))
+
+pub returns-in-Some-clause-exact : goal.returns-in-Some-clause-exact
+returns-in-Some-clause-exact c =
+    let told = c.in-Ok.ensures.exact in
+    let kind = sym c.in-Some.is ∙ c.handle_kind.ensures ∙ ap (λ e. handle_kind c.in-Ok.interface e c.opcode.result) c.is_event.ensures ∙ ap (handle_kind c.in-Ok.interface (is_event c.args.way)) c.opcode.ensures in
+    a_handle c.passed_by_the_table.ensures c.args.way _ _ c.args.message.now c.in-Ok.interface told _ kind

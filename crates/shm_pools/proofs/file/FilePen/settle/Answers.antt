@@ -1,4 +1,4 @@
-use Rattle.std.proofs.Common.{◌<◌, List, length, ap, ◌∙◌, sym, subst, arith}
+use Rattle.std.proofs.Common.{◌*◌, ◌<◌, List, length, ap, ◌∙◌, sym, subst, arith}
 use Rattle.std.specs.Prelude.{All, OnOk}
 use Rattle.std.proofs.lemmas.List.{get_or_default, get_or-set_same}
 use Rattle.pool_words.specs.History.{HasStood}
@@ -13,8 +13,12 @@ invariant_of-self c =
     let lt : c.args.segment < length ps = omega (arith, ap (λ (f : FileState). length f.segments) c.self.view_is, c.requires.within) in
     let here = c.index_mut.ensures.value ∙ get_or_default ps c.args.segment c.index_mut.result.now no_pen lt in
     let after = after_settle c.settle.result c.index_mut.result.now c.settle.new.self c.args.r c.settle.ensures.ok c.settle.ensures.unchanged in
-    whole_set c.self.inside.number c.self.inside.bytes ps c.args.segment c.settle.new.self c.self.invariant lt
-    (after.0 ∙ ap (λ (p : PenState). p.words) here) (after.1 ∙ ap (λ (p : PenState). p.number) here)
+    let set = whole_set c.self.inside.number ps c.args.segment c.settle.new.self c.self.invariant.1 lt
+    (after.0 ∙ ap (λ (p : PenState). p.words) here) (after.1 ∙ ap (λ (p : PenState). p.number) here) in
+    (c.self.invariant.0 ∙ ap (λ n. 8 * n) (sym set.0), set.1)
+
+pub returns-clause-whole : goal.returns-clause-whole
+returns-clause-whole c = (invariant_of-self c).1
 
 pub returns-clause-stood : goal.returns-clause-stood
 returns-clause-stood c =

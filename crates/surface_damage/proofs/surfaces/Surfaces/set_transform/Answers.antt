@@ -1,13 +1,31 @@
-use Rattle.std.proofs.Common.{◌∙◌, sym, ap}
+use Rattle.std.proofs.Common.{◌≡◌, ◌∙◌, ℕ, sym, ap, subst}
+use Rattle.std.specs.BTreeMap.{BTreeMap}
 use Rattle.std.specs.Int.{w32}
 use Rattle.std.proofs.lemmas.Int.{to_z-of_z}
-use Rattle.std.specs.Option.{option_copied_mut}
+use Rattle.surface_damage.specs.declared.surfaces.Surfaces.TheInside.{Inside}
+use Rattle.surface_damage.specs.History.{SurfaceState}
+use Rattle.surface_damage.specs.Requests.{SetTransform}
+use Rattle.surface_damage.specs.Sound.{IsSound}
 use Rattle.surface_damage.specs.Steps.{changed, with_transform}
-use Rattle.surface_damage.proofs.StepLemmas.{changed-is}
+use Rattle.surface_damage.proofs.StepLemmas.{changed_is, changed_none}
+use Rattle.surface_damage.proofs.SoundLemmas.{sound_after}
 use Rattle.surface_damage.proofs.surfaces.Surfaces.set_transform.Goals as goal
+use Rattle.surface_damage.proofs.surfaces.Surfaces.set_transform.Goals.{in-Some, in_default}
 
-pub returns : goal.returns
-returns c =
-    (c.get_mut.follows.holds c.set_transform.new.self).0
-    ∙ changed-is c.args.id (with_transform c.args.transform) c.self.inside.surfaces.entries c.unwrap-surface.result.now _ (sym c.get_mut.ensures.value ∙ ap option_copied_mut c.unwrap-surface.ensures) (c.set_transform.ensures ∙ ap (λ z. with_transform z c.unwrap-surface.result.now) (to_z-of_z w32 c.args.transform c.ranges.transform))
-    ∙ ap (changed c.args.id (with_transform c.args.transform)) c.self.view_is
+pub returns-clause-step : goal.returns-clause-step
+returns-clause-step c =
+    let step = with_transform c.args.transform in
+    let all = c.self.inside.surfaces.entries in
+    elim c.match-get_mut.branch [
+      | in-Some w ↦ ap (λ (inside : Inside). inside.surfaces.entries) w.self-inside-is ∙ (c.get_mut.follows.holds w.set_transform.new.self).0
+          ∙ changed_is c.args.id step all w.in-Some.surface.now w.set_transform.new.self (sym w.in-Some.ensures.value) (w.set_transform.ensures ∙ ap (λ z. with_transform z w.in-Some.surface.now) (to_z-of_z w32 c.args.transform c.ranges.transform)) ∙ ap (changed c.args.id step) c.self.view_is
+      | in_default w ↦ ap (λ (inside : Inside). inside.surfaces.entries) w.self-inside-is ∙ ap (λ (map : BTreeMap ℕ SurfaceState). map.entries) c.get_mut.follows.holds-at-none
+          ∙ sym (changed_none c.args.id step all (sym w.in_default.ensures.value)) ∙ ap (changed c.args.id step) c.self.view_is
+    ]
+
+pub returns-clause-sound : goal.returns-clause-sound
+returns-clause-sound c =
+    subst IsSound (sym (returns-clause-step c)) (sound_after (SetTransform c.args.id c.args.transform) c.args.self.now (subst IsSound c.self.view_is c.self.invariant))
+
+pub invariant_of-self : goal.invariant_of-self
+invariant_of-self c = returns-clause-sound c
