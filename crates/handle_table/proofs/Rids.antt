@@ -23,7 +23,7 @@ use Rattle.handle_table.specs.declared.handles.Seat.{Seat}
 use Rattle.handle_table.specs.Table.{Table, is_kind, is_handle, rid_at, place_of, rid_of_handle, most_handles, seat, seat_found, passed_found, after_pass}
 use Rattle.handle_table.specs.Sound.{IsPassedOnce, IsSound}
 use Rattle.handle_table.specs.Laws.{OneHandlePerRid, ForeseenIsPassed, RidOutlastsPass, RidOutlastsTook, SoundLasts, RidsAreDense}
-use Rattle.handle_table.proofs.Kept.{sorted-insert_entry}
+use Rattle.plain_lists.proofs.EntryLemmas.{sorted-insert_entry}
 use Rattle.handle_table.proofs.Places.{position-push, position-pushed}
 
 -- kinds that test as the same are one

@@ -8,7 +8,9 @@ use Rattle.handle_table.specs.Table.{Table, most_handles, place_of}
 
 -- each handle that was passed stands at one place alone
 abbrev pub IsPassedOnce : Table → Type 0
-IsPassedOnce table = (place : ℕ) (h : Handle) → slice_get table.passed place ≡ Some h → place_of table h ≡ Some place
+IsPassedOnce table =
+    (place : ℕ) (h : Handle)
+    → slice_get table.passed place ≡ Some h → place_of table h ≡ Some place
 
 -- each handle was passed once, no more of them than there are rids, and the kept rids rise
 pub record IsSound (table : Table) : Type 0 where

@@ -1,6 +1,9 @@
--- The handles that one side passed, in order, and the rids that the other side opened. This project's own:
--- the Wayland wire format sends a descriptor beside the stream and gives it no number.
-use Rattle.std.specs.Prelude.{ℕ, ◌+◌, Bool, true, false, ◌&&◌, ℤ, pos, negsuc, List, [], ◌∷◌, ◌++◌, Option, None, Some, option_map, length, position, nat_lt, if◌then◌else◌}
+-- The handles that one side passed, in order, and the rids that the other side opened. This
+-- project's own: the Wayland wire format sends a descriptor beside the stream and gives it no
+-- number.
+use Rattle.std.specs.Prelude.{ℕ, ◌+◌, Bool, true, false, ◌&&◌, ℤ, pos, negsuc, List, [], ◌∷◌, ◌++◌}
+use Rattle.std.specs.Prelude.{Option, None, Some, option_map, length, position, nat_lt}
+use Rattle.std.specs.Prelude.{if◌then◌else◌}
 use Rattle.std.specs.Ordering.{int_cmp, int_eq}
 use Rattle.std.specs.Option.{option_or}
 use Rattle.std.specs.BTreeMap.{insert_entry}
@@ -12,7 +15,8 @@ use Rattle.wp_outside.specs.declared.kinds.HandleKind.TheVariants.{File, PipeWri
 use Rattle.handle_table.specs.declared.handles.Handle.{Handle}
 use Rattle.handle_table.specs.declared.handles.Seat.{Seat}
 
--- what one side knows of handles: the handles that it passed in order, and the rids that it keeps, rising
+-- what one side knows of handles: the handles that it passed in order, and the rids that it keeps,
+-- rising
 pub record Table : Type 0 where
   pub side : Side
   pub passed : List Handle
@@ -29,8 +33,8 @@ is_kind PipeWrite PipeWrite = true
 abbrev pub is_handle : Handle → Handle → Bool
 is_handle h other = int_eq h.number other.number && is_kind h.kind other.kind
 
--- the rid of the handle that was passed at this place: 1, 2 and so on at the near side, -1, -2 and so on
--- at the far side
+-- the rid of the handle that was passed at this place: 1, 2 and so on at the near side, -1, -2 and
+-- so on at the far side
 abbrev pub rid_at : Side → ℕ → ℤ
 rid_at Near place = pos (place + 1)
 rid_at Far place = negsuc place
@@ -43,7 +47,8 @@ place_of table h = position (is_handle h) table.passed
 abbrev pub rid_of_handle : Table → Handle → Option ℤ
 rid_of_handle table h = option_map (rid_at table.side) (place_of table h)
 
--- the rid of a number: that of the pipe's end where one of this number was passed, else that of the file
+-- the rid of a number: that of the pipe's end where one of this number was passed, else that of the
+-- file
 abbrev pub rid_of_number : Table → ℤ → Option ℤ
 rid_of_number table number =
     option_or
@@ -62,7 +67,9 @@ seat side is_new place = record { place = place; rid = rid_at side place; is_new
 abbrev pub seat_found : Table → Option ℕ → Option Seat
 seat_found table (Some place) = Some (seat table.side false place)
 seat_found table None =
-    if nat_lt (length table.passed) most_handles then Some (seat table.side true (length table.passed)) else None
+    if nat_lt (length table.passed) most_handles
+    then Some (seat table.side true (length table.passed))
+    else None
 
 -- the seat that a handle has, or has once it is passed
 abbrev pub seat_for : Table → Handle → Option Seat

@@ -2,8 +2,9 @@
 
 use wp_outside::HandleKind;
 
-/// A Wayland `fd` argument as it stands in this process: a number and what it leads to. The application's own
-/// handles have positive numbers and the compositor's negative ones; a received handle has its rid as number.
+/// A Wayland `fd` argument as it stands in this process: a number and what it leads to. The
+/// application's own handles have positive numbers and the compositor's negative ones; a received
+/// handle has its rid as number.
 #[derive(Clone, Copy, Debug, PartialEq, Eq, Hash)]
 pub struct Handle {
     /// The number.

@@ -1,6 +1,7 @@
 //! What holds of the rids of every table.
 
-ghost use Rattle.handle_table.specs.Laws.{OneHandlePerRid, ForeseenIsPassed, RidOutlastsPass, RidOutlastsTook, SoundLasts, RidsAreDense, TookKeepsKind};
+ghost use Rattle.handle_table.specs.Laws.{OneHandlePerRid, ForeseenIsPassed, RidOutlastsPass};
+ghost use Rattle.handle_table.specs.Laws.{RidOutlastsTook, SoundLasts, RidsAreDense, TookKeepsKind};
 
 /// Two handles with one rid are one handle.
 pub fn one_handle_per_rid()

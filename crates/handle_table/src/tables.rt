@@ -2,7 +2,9 @@
 
 ghost use Rattle.std.specs.Prelude.{◌≡◌, ◌<◌, None, Some, IfOk, OnOk, OnErr, option_map};
 ghost use Rattle.handle_table.specs.Sound.{IsSound};
-ghost use Rattle.handle_table.specs.Table.{most_handles, rid_at, seat as seat_at, rid_of_handle, rid_of_number, seat_for, answer_of, after_pass, kind_of_rid, after_took, fresh_table};
+ghost use Rattle.handle_table.specs.Table.{most_handles, rid_at, seat as seat_at, rid_of_handle};
+ghost use Rattle.handle_table.specs.Table.{rid_of_number, seat_for, answer_of, after_pass};
+ghost use Rattle.handle_table.specs.Table.{kind_of_rid, after_took, fresh_table};
 
 use crate::handles::{Handle, Seat};
 use indexmap::IndexSet;
@@ -16,8 +18,9 @@ const MOST_HANDLES: usize = 2_147_483_647;
 
 /// The handles that one side passed, each with its rid, and the rids that the other side opened.
 ///
-/// A look-up of a handle takes expected constant time, since its numbers are the side's own peer's. The rids
-/// of the other side may be anyone's choice, so a look-up of one takes logarithmic time whatever they are.
+/// A look-up of a handle takes expected constant time, since its numbers are the side's own peer's.
+/// The rids of the other side may be anyone's choice, so a look-up of one takes logarithmic time
+/// whatever they are.
 #[derive(Drop)]
 pub struct Handles {
     side: Side,
@@ -30,11 +33,19 @@ impl Model for Handles {
 
     ghost Value = { Table };
 
-    ghost view = { λ h. record { side = h.side; passed = h.passed.keys; kept = h.kept.entries } };
+    ghost view = { λ h. record {
+      side = h.side;
+      passed = h.passed.keys;
+      kept = h.kept.entries;
+    } };
 
     ghost use Rattle.handle_table.specs.Sound.{IsSound};
 
-    ghost invariant = { λ h. IsSound (record { side = h.side; passed = h.passed.keys; kept = h.kept.entries }) };
+    ghost invariant = { λ h. IsSound (record {
+      side = h.side;
+      passed = h.passed.keys;
+      kept = h.kept.entries;
+    }) };
 }
 
 impl Handles {
@@ -50,8 +61,8 @@ impl Handles {
         }
     }
 
-    /// The rid that a handle of this number was passed with. Where a file and a pipe's end of one number were
-    /// passed, it is that of the pipe's end.
+    /// The rid that a handle of this number was passed with. Where a file and a pipe's end of one
+    /// number were passed, it is that of the pipe's end.
     pub fn rid_of(&self, number: i32) -> Option<i32>
         ensures { result ≡ rid_of_number self.now number }
     {
@@ -75,7 +86,8 @@ impl Handles {
         }
     }
 
-    /// The seat that `pass` would give the handle now, or None exactly where it was not passed and no rid is left.
+    /// The seat that `pass` would give the handle now, or None exactly where it was not passed and
+    /// no rid is left.
     pub fn foresee(&self, h: Handle) -> Option<Seat>
         ensures seat { result ≡ seat_for self.now h }
         ensures sound { IsSound self.now }
@@ -93,8 +105,8 @@ impl Handles {
         }
     }
 
-    /// Passes a handle, and answers its rid and whether that rid is new. A handle that was passed before keeps
-    /// its rid. The error is want of memory, or that no rid is left for a new handle.
+    /// Passes a handle, and answers its rid and whether that rid is new. A handle that was passed
+    /// before keeps its rid. The error is want of memory, or that no rid is left for a new handle.
     pub fn pass(&mut self, h: Handle) -> Result<(i32, bool), AllocError>
         ensures answer { IfOk result (λ r. option_map answer_of (seat_for self.old h) ≡ Some r) }
         ensures after { OnOk result (self.new ≡ after_pass self.old h) }

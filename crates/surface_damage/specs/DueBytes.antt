@@ -33,8 +33,8 @@ geometry_of s b = record {
 abbrev pub all_had : Geometry → List Committed → Bool
 all_had geometry commits = list_all (λ c. has_geometry geometry c.content) commits
 
--- of the last earlier commit with the buffer, how many commits there were since: only where it is one
--- of the last seven, and it and all commits since had this geometry
+-- of the last earlier commit with the buffer, how many commits there were since: only where it is
+-- one of the last seven, and it and all commits since had this geometry
 abbrev pub if_enough : Geometry → List Committed → Option ℕ → Option ℕ
 if_enough geometry commits None = None
 if_enough geometry commits (Some back) =

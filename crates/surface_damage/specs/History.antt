@@ -1,6 +1,6 @@
 -- What a surface shows and remembers, from Wayland's core protocol (wl_surface.attach, damage,
--- damage_buffer, set_buffer_scale, set_buffer_transform and commit): pending state, and what earlier
--- commits showed.
+-- damage_buffer, set_buffer_scale, set_buffer_transform and commit): pending state, and what
+-- earlier commits showed.
 use Rattle.std.specs.Prelude.{ℕ, Bool, false, ◌&&◌, ◌==◌, List, Option, None, Some}
 use Rattle.std.specs.Ordering.{int_eq}
 use Rattle.surface_damage.specs.declared.rect.Damage.{Damage}

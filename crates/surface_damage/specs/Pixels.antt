@@ -1,6 +1,6 @@
 -- Which pixel of a buffer a rectangle of damage covers, from Wayland's core protocol
--- (wl_surface.damage, damage_buffer, set_buffer_scale, set_buffer_transform and wl_output.transform),
--- over whole numbers that never wrap.
+-- (wl_surface.damage, damage_buffer, set_buffer_scale, set_buffer_transform and
+-- wl_output.transform), over whole numbers that never wrap.
 use Rattle.std.specs.Prelude.{ℕ, zero, suc, ◌-◌, ◌/◌, Bool, ◌&&◌, ◌==◌, if◌then◌else◌}
 use Rattle.std.specs.Prelude.{ℤ, pos, negsuc, ◌+ℤ◌, int_lt, int_le}
 use Rattle.surface_damage.specs.declared.rect.Rect.{Rect}

@@ -26,8 +26,9 @@ abbrev pub with_every_commit : Standing → SurfaceState → SurfaceState
 with_every_commit standing s =
     record s { pending = []; commits = next_commit s standing ∷ s.commits }
 
--- the surfaces after a request, where a commit does this to its surface: a surface that is made takes
--- the place of one of its id, and any other request for an id that has no surface changes nothing
+-- the surfaces after a request, where a commit does this to its surface: a surface that is made
+-- takes the place of one of its id, and any other request for an id that has no surface changes
+-- nothing
 abbrev pub after_by : (Standing → SurfaceState → SurfaceState) → Request
     → List (ℕ × SurfaceState) → List (ℕ × SurfaceState)
 after_by commit (Make id) all = insert_entry nat_cmp all id fresh

@@ -1,5 +1,5 @@
--- What holds of the surfaces of every side, whatever was requested: this project's own, of Wayland's
--- wl_surface.
+-- What holds of the surfaces of every side, whatever was requested: this project's own, of
+-- Wayland's wl_surface.
 use Rattle.std.specs.Prelude.{ℕ, ◌<◌, ◌≤◌, List, length}
 use Rattle.std.specs.Ordering.{nat_cmp}
 use Rattle.std.specs.List.{All}

@@ -1,7 +1,8 @@
--- Laws of damage (Wayland's wl_surface.damage, damage_buffer and commit): what the filled blocks of a
--- commit hold, what a look-up finds behind a request, and that no commit is forgotten that could matter.
-use Rattle.std.specs.Prelude.{◌≡◌, ℕ, ◌/◌, ◌≤◌, ◌==◌, true, if◌then◌else◌, List, [], length, map, take}
-use Rattle.std.specs.Prelude.{None, Some}
+-- Laws of damage (Wayland's wl_surface.damage, damage_buffer and commit): what the filled blocks of
+-- a commit hold, what a look-up finds behind a request, and that no commit is forgotten that could
+-- matter.
+use Rattle.std.specs.Prelude.{◌≡◌, ℕ, ◌/◌, ◌≤◌, ◌==◌, true, if◌then◌else◌}
+use Rattle.std.specs.Prelude.{List, [], length, map, take, None, Some}
 use Rattle.std.specs.Option.{option_map}
 use Rattle.std.specs.Ordering.{nat_cmp}
 use Rattle.std.specs.List.Sorted.{IsStrictlySortedBy}
@@ -39,8 +40,9 @@ FilledBlocksAscend =
 abbrev pub newest_seven : SurfaceState → SurfaceState
 newest_seven s = record s { commits = take 7 s.commits }
 
--- after every list of requests: what is kept is what would be there with no commit forgotten, but for
--- all commits of a surface behind its newest seven; and with both a commit fills the same blocks
+-- after every list of requests: what is kept is what would be there with no commit forgotten, but
+-- for all commits of a surface behind its newest seven; and with both a commit fills the same
+-- blocks
 pub record NewestSuffice : Type 0 where
   pub kept : (requests : List Request)
       → kept_after requests ≡ map (λ one. (one.0, newest_seven one.1)) (whole_after requests)
@@ -48,11 +50,12 @@ pub record NewestSuffice : Type 0 where
       → filled_for (find id (kept_after requests)) standing
       ≡ filled_for (find id (whole_after requests)) standing
 
--- what a look-up finds behind each kind of step: at its id the step's own surface, else what it found
--- before
+-- what a look-up finds behind each kind of step: at its id the step's own surface, else what it
+-- found before
 pub record FindAfter : Type 0 where
   pub made : (id other : ℕ) (s : SurfaceState) (all : List (ℕ × SurfaceState))
-      → find other (insert_entry nat_cmp all id s) ≡ (if id == other then Some s else find other all)
+      → find other (insert_entry nat_cmp all id s)
+      ≡ (if id == other then Some s else find other all)
   pub destroyed : (id other : ℕ) (all : List (ℕ × SurfaceState))
       → IsStrictlySortedBy nat_cmp (keys_of all)
       → find other (remove_entry (is_at (nat_cmp id)) all)

@@ -1,5 +1,5 @@
--- What each request does to a surface, from Wayland's core protocol (wl_surface), and to the surface
--- of an id among many.
+-- What each request does to a surface, from Wayland's core protocol (wl_surface), and to the
+-- surface of an id among many.
 use Rattle.std.specs.Prelude.{ℕ, ℤ, List, [], ◌∷◌, ◌++◌, take, Option, None, if◌then◌else◌}
 use Rattle.std.specs.Option.{option_map}
 use Rattle.std.specs.Ordering.{nat_cmp}
@@ -41,7 +41,8 @@ content_of s (Fits b told) =
 abbrev pub next_commit : SurfaceState → Standing → Committed
 next_commit s standing = record { content = content_of s standing; damage = s.pending }
 
--- what is pending becomes the newest commit; the oldest that is remembered is the last of the backlog
+-- what is pending becomes the newest commit; the oldest that is remembered is the last of the
+-- backlog
 abbrev pub with_commit : Standing → SurfaceState → SurfaceState
 with_commit standing s =
     record s { pending = []; commits = take backlog (next_commit s standing ∷ s.commits) }

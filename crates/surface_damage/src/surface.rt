@@ -170,7 +170,8 @@ impl Surface {
         }
     }
 
-    // The blocks that hold a due byte; where these make too many runs, all from the first to the last.
+    // The blocks that hold a due byte; where these make too many runs, all from the first to the
+    // last.
     fn filled_blocks(&self, standing: &Standing) -> Result<Blocks, AllocError>
         requires { Stands standing.now }
         ensures { IfOk result (λ blocks. blocks ≡ filled_at self.now standing.now) }

@@ -21,8 +21,8 @@ use std::marker::Model;
 
 /// The surfaces of a session by object id, seen as the list of ids and states, ids rising.
 ///
-/// Each call is one request. A request for an id that has no surface changes nothing. Of each surface
-/// at most seven commits are remembered.
+/// Each call is one request. A request for an id that has no surface changes nothing. Of each
+/// surface at most seven commits are remembered.
 #[derive(Drop)]
 pub struct Surfaces {
     surfaces: BTreeMap<u32, Surface>,
@@ -148,9 +148,9 @@ impl Surfaces {
         }
     }
 
-    /// Commits what is pending (`wl_surface.commit`) and gives the blocks to carry: those that hold a
-    /// due byte, or where these make more than 1,024 runs, all from the first to the last. None where
-    /// the id has no surface, or the surface no buffer.
+    /// Commits what is pending (`wl_surface.commit`) and gives the blocks to carry: those that hold
+    /// a due byte, or where these make more than 1,024 runs, all from the first to the last. None
+    /// where the id has no surface, or the surface no buffer.
     ///
     /// # Errors
     /// Only where memory runs out; nothing is then changed, and the same commit can be made again.

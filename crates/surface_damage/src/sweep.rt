@@ -1,9 +1,9 @@
 //! The blocks of many areas of an image, found from its top to its bottom.
 //!
-//! Areas are taken up in the order of their first rows. Rows that lie in the same areas make a band:
-//! the columns of its areas are merged once, and each of its rows adds these columns from left to
-//! right. So blocks are added in ascending order alone, each in constant time, and what areas have in
-//! common is added once.
+//! Areas are taken up in the order of their first rows. Rows that lie in the same areas make a
+//! band: the columns of its areas are merged once, and each of its rows adds these columns from
+//! left to right. So blocks are added in ascending order alone, each in constant time, and what
+//! areas have in common is added once.
 
 ghost use Rattle.std.specs.Prelude.{◌≡◌, ℕ, ◌+◌, ◌^◌, ◌<◌, ◌≤◌, ◌||◌, nat_lt, IfOk, OnOk};
 ghost use Rattle.std.specs.List.{All, filter};

@@ -1,13 +1,23 @@
 -- What is wrong with bytes that should be a frame: the causes 1 to 9, in the order in which they
 -- are tested.
-use Rattle.std.specs.Prelude.{ℕ, ◌+◌, ◌-◌, ◌/◌, ◌%◌, nat_lt, nat_le, ◌==◌, if◌then◌else◌, Bool, true, false, not, ◌&&◌, List, [], ◌∷◌, length, take, drop, Option, Some, None, is_none}
+use Rattle.std.specs.Prelude.{ℕ, ◌+◌, ◌-◌, ◌/◌, ◌%◌, nat_lt, nat_le, ◌==◌, if◌then◌else◌, Bool}
+use Rattle.std.specs.Prelude.{true, false, not, ◌&&◌, List, [], ◌∷◌, length, take, drop, Option}
+use Rattle.std.specs.Prelude.{Some, None, is_none}
 use Rattle.std.specs.List.{list_any, list_all}
 use Rattle.wl_wire.specs.Wire.{cut_rest}
 use Rattle.transfer_frames.specs.declared.frame.TheConstants.{LARGEST_FRAME, LONGEST_TRANSFER}
 use Rattle.transfer_frames.specs.declared.cause.FrameCause.{FrameCause}
-use Rattle.transfer_frames.specs.declared.cause.FrameCause.TheVariants.{SizeSmall, SizeLarge, UnknownType, LeftOut, BodyLength, Padding, RidZero, FillRange, MessageCut}
+use Rattle.transfer_frames.specs.declared.cause.FrameCause.TheVariants.{SizeSmall, SizeLarge}
+use Rattle.transfer_frames.specs.declared.cause.FrameCause.TheVariants.{UnknownType, LeftOut}
+use Rattle.transfer_frames.specs.declared.cause.FrameCause.TheVariants.{BodyLength, Padding}
+use Rattle.transfer_frames.specs.declared.cause.FrameCause.TheVariants.{RidZero, FillRange}
+use Rattle.transfer_frames.specs.declared.cause.FrameCause.TheVariants.{MessageCut}
 use Rattle.transfer_frames.specs.declared.kinds.FrameType.{FrameType}
-use Rattle.transfer_frames.specs.declared.kinds.FrameType.TheVariants.{Protocol, Inject, OpenFile, ExtendFile, Fill, OpenPipe, PipeTransfer, PipeShutR, PipeShutW, Ack, Restart, Close}
+use Rattle.transfer_frames.specs.declared.kinds.FrameType.TheVariants.{Protocol, Inject, OpenFile}
+use Rattle.transfer_frames.specs.declared.kinds.FrameType.TheVariants.{ExtendFile, Fill, OpenPipe}
+use Rattle.transfer_frames.specs.declared.kinds.FrameType.TheVariants.{PipeTransfer, PipeShutR}
+use Rattle.transfer_frames.specs.declared.kinds.FrameType.TheVariants.{PipeShutW, Ack, Restart}
+use Rattle.transfer_frames.specs.declared.kinds.FrameType.TheVariants.{Close}
 use Rattle.transfer_frames.specs.Numbers.{word_of, words_of}
 use Rattle.transfer_frames.specs.Grammar.{type_at, padded}
 

@@ -7,7 +7,11 @@ use Rattle.hex.specs.Hex.{encode_lower}
 use Rattle.transfer_frames.specs.declared.frame.Frame.{Frame}
 use Rattle.transfer_frames.specs.declared.frame.Frame.TheVariants as frames
 use Rattle.transfer_frames.specs.declared.kinds.FrameType.{FrameType}
-use Rattle.transfer_frames.specs.declared.kinds.FrameType.TheVariants.{Protocol, Inject, OpenFile, ExtendFile, Fill, OpenPipe, PipeTransfer, PipeShutR, PipeShutW, Ack, Restart, Close}
+use Rattle.transfer_frames.specs.declared.kinds.FrameType.TheVariants.{Protocol, Inject, OpenFile}
+use Rattle.transfer_frames.specs.declared.kinds.FrameType.TheVariants.{ExtendFile, Fill, OpenPipe}
+use Rattle.transfer_frames.specs.declared.kinds.FrameType.TheVariants.{PipeTransfer, PipeShutR}
+use Rattle.transfer_frames.specs.declared.kinds.FrameType.TheVariants.{PipeShutW, Ack, Restart}
+use Rattle.transfer_frames.specs.declared.kinds.FrameType.TheVariants.{Close}
 use Rattle.transfer_frames.specs.Grammar.{type_of}
 
 unfoldable pub type_name : FrameType → List ℕ

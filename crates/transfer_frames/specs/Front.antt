@@ -1,12 +1,17 @@
 -- What stands at the front of a stream of bytes: a frame, the beginning of one, or a fault.
-use Rattle.std.specs.Prelude.{◌≡◌, ℕ, ◌≤◌, nat_lt, if◌then◌else◌, List, [], length, take, drop, Option, Some, None, Result, Ok, Err, IsSome, map}
+use Rattle.std.specs.Prelude.{◌≡◌, ℕ, ◌≤◌, nat_lt, if◌then◌else◌, List, [], length, take, drop}
+use Rattle.std.specs.Prelude.{Option, Some, None, Result, Ok, Err, IsSome, map}
 use Rattle.transfer_frames.specs.declared.frame.Frame.{Frame}
 use Rattle.transfer_frames.specs.declared.frame.Frame.TheVariants as frames
 use Rattle.transfer_frames.specs.declared.cause.FrameCause.{FrameCause}
 use Rattle.transfer_frames.specs.declared.cause.DecodeFault.{DecodeFault}
 use Rattle.transfer_frames.specs.declared.cause.DecodeFault.TheVariants as faults
 use Rattle.transfer_frames.specs.declared.kinds.FrameType.{FrameType}
-use Rattle.transfer_frames.specs.declared.kinds.FrameType.TheVariants.{Protocol, Inject, OpenFile, ExtendFile, Fill, OpenPipe, PipeTransfer, PipeShutR, PipeShutW, Ack, Restart, Close}
+use Rattle.transfer_frames.specs.declared.kinds.FrameType.TheVariants.{Protocol, Inject, OpenFile}
+use Rattle.transfer_frames.specs.declared.kinds.FrameType.TheVariants.{ExtendFile, Fill, OpenPipe}
+use Rattle.transfer_frames.specs.declared.kinds.FrameType.TheVariants.{PipeTransfer, PipeShutR}
+use Rattle.transfer_frames.specs.declared.kinds.FrameType.TheVariants.{PipeShutW, Ack, Restart}
+use Rattle.transfer_frames.specs.declared.kinds.FrameType.TheVariants.{Close}
 use Rattle.std.specs.Int.{w32, cast_signed}
 use Rattle.transfer_frames.specs.Numbers.{word_of, long_of, rid_of, words_of}
 use Rattle.transfer_frames.specs.Grammar.{type_at, spelling, IsFrame}

@@ -1,12 +1,16 @@
 -- The grammar of the link's frames: which frames there are and the one spelling of each in bytes;
 -- it is this project's own, and the messages in a PROTOCOL frame are those of the Wayland wire
 -- format.
-use Rattle.std.specs.Prelude.{◌≡◌, ℕ, ◌+◌, ◌-◌, ◌*◌, ◌/◌, ◌%◌, ◌<◌, ◌≤◌, ◌==◌, if◌then◌else◌, true, false, List, [], ◌++◌, length, replicate, Option, Some, None}
+use Rattle.std.specs.Prelude.{◌≡◌, ℕ, ◌+◌, ◌-◌, ◌*◌, ◌/◌, ◌%◌, ◌<◌, ◌≤◌, ◌==◌, if◌then◌else◌, true}
+use Rattle.std.specs.Prelude.{false, List, [], ◌++◌, length, replicate, Option, Some, None}
 use Rattle.std.specs.List.{flat_map, AllByRecursion}
 use Rattle.wl_wire.specs.Wire.{cut_rest}
 use Rattle.transfer_frames.specs.declared.frame.TheConstants.{LARGEST_FRAME, LONGEST_TRANSFER}
 use Rattle.transfer_frames.specs.declared.frame.Frame.{Frame}
-use Rattle.transfer_frames.specs.declared.frame.Frame.TheVariants.{Protocol, Inject, OpenFile, ExtendFile, Fill, OpenPipe, PipeTransfer, PipeShutR, PipeShutW, Ack, Restart, Close}
+use Rattle.transfer_frames.specs.declared.frame.Frame.TheVariants.{Protocol, Inject, OpenFile}
+use Rattle.transfer_frames.specs.declared.frame.Frame.TheVariants.{ExtendFile, Fill, OpenPipe}
+use Rattle.transfer_frames.specs.declared.frame.Frame.TheVariants.{PipeTransfer, PipeShutR}
+use Rattle.transfer_frames.specs.declared.frame.Frame.TheVariants.{PipeShutW, Ack, Restart, Close}
 use Rattle.transfer_frames.specs.declared.frame.FrameRole.{FrameRole}
 use Rattle.transfer_frames.specs.declared.frame.FrameRole.TheVariants.{Counted, Tells, Greets}
 use Rattle.transfer_frames.specs.declared.kinds.FrameType.{FrameType}
@@ -126,7 +130,8 @@ HasFields (OpenFile rid size) = IsRid rid × IsWord size
 HasFields (ExtendFile rid size) = IsRid rid × IsWord size
 HasFields (Fill rid start end bytes) = IsRid rid × IsWord end × IsRange start end (length bytes)
 HasFields (OpenPipe rid) = IsRid rid
-HasFields (PipeTransfer rid bytes) = IsRid rid × (1 ≤ length bytes) × (length bytes ≤ LONGEST_TRANSFER)
+HasFields (PipeTransfer rid bytes) =
+    IsRid rid × (1 ≤ length bytes) × (length bytes ≤ LONGEST_TRANSFER)
 HasFields (PipeShutR rid) = IsRid rid
 HasFields (PipeShutW rid) = IsRid rid
 HasFields (Ack count) = IsLong count

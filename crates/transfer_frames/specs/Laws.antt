@@ -53,7 +53,9 @@ OneRow =
 -- a frame stands at the front just where the bytes begin with its spelling
 abbrev pub FrontOfFrame : Type 0
 FrontOfFrame =
-    (frame : Frame) (more : List ℕ) → IsFrame frame → front (spelling frame ++ more) ≡ Ok (Some frame)
+    (frame : Frame) (more : List ℕ)
+    → IsFrame frame
+    → front (spelling frame ++ more) ≡ Ok (Some frame)
 
 abbrev pub FrameOfFront : Type 0
 FrameOfFront = (bytes : List ℕ) (frame : Frame) → IsBytes bytes → front bytes ≡ Ok (Some frame)

@@ -1,6 +1,8 @@
 //! Laws of the grammar: functions that do nothing, and whose contract is the law.
 
-ghost use Rattle.transfer_frames.specs.Laws.{SpelledIsRead, ReadIsSpelled, NoneBegins, OneRow, FrontOfFrame, FrameOfFront, FrontStays, PartWaits, SpellingLength, MessageFits};
+ghost use Rattle.transfer_frames.specs.Laws.{SpelledIsRead, ReadIsSpelled, NoneBegins, OneRow};
+ghost use Rattle.transfer_frames.specs.Laws.{FrontOfFrame, FrameOfFront, FrontStays, PartWaits};
+ghost use Rattle.transfer_frames.specs.Laws.{SpellingLength, MessageFits};
 
 use wl_wire::joined_is_cut;
 

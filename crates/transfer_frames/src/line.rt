@@ -1,6 +1,6 @@
 //! The line that shows a frame.
 
-ghost use Rattle.std.specs.Prelude.{◌≡◌, ◌++◌, ◌∷◌, [], List, map, decimal, OnOk, IfOk};
+ghost use Rattle.std.specs.Prelude.{◌≡◌, ◌++◌, ◌∷◌, [], List, map, decimal, OnOk, OnErr, IfOk};
 ghost use Rattle.std.specs.Fmt.{signed_decimal};
 ghost use Rattle.hex.specs.Hex.{encode_lower};
 ghost use Rattle.transfer_frames.specs.FrameLines.{type_name, fields, spaced, line};
@@ -58,7 +58,7 @@ fn put_rid(out: &mut Vec<u8>, rid: i32) -> Result<(), AllocError>
 const PIECE: usize = 128;
 
 /// Adds bytes in hexadecimal, by way of a small buffer.
-fn append_hex(out: &mut Vec<u8>, bytes: &[u8]) -> Result<(), AllocError>
+fn put_digits(out: &mut Vec<u8>, bytes: &[u8]) -> Result<(), AllocError>
     ensures { OnOk result (out.new.items ≡ out.old.items ++ encode_lower bytes.now) }
 {
     let mut digits = [0u8; 2 * PIECE];
@@ -79,7 +79,7 @@ fn put_hex(out: &mut Vec<u8>, bytes: &[u8]) -> Result<(), AllocError>
     ensures { OnOk result (out.new.items ≡ out.old.items ++ spaced (encode_lower bytes.now ∷ [])) }
 {
     out.push(b' ')?;
-    append_hex(out, bytes)
+    put_digits(out, bytes)
 }
 
 fn put_rids(out: &mut Vec<u8>, rids: &[i32]) -> Result<(), AllocError>
@@ -115,7 +115,8 @@ fn put_range(
     bytes: &[u8],
 ) -> Result<(), AllocError>
     ensures { OnOk result (out.new.items ≡ out.old.items
-        ++ spaced (signed_decimal rid ∷ decimal start ∷ decimal end ∷ encode_lower bytes.now ∷ [])) }
+        ++ spaced (signed_decimal rid ∷ decimal start ∷ decimal end
+        ∷ encode_lower bytes.now ∷ [])) }
 {
     put_rid(out, rid)?;
     put_number(out, u64::from(start))?;
@@ -164,6 +165,20 @@ fn put_fields(out: &mut Vec<u8>, frame: &Frame) -> Result<(), AllocError>
         } => put_greeting(out, token, *connection, *received),
         Frame::Close { reason } => put_number(out, u64::from(*reason)),
     }
+}
+
+/// Adds bytes to a text in lower-case hexadecimal, two digits a byte.
+///
+/// # Errors
+/// Only where memory runs out; the text is then empty.
+pub fn append_hex(out: &mut Text, bytes: &[u8]) -> Result<(), AllocError>
+    ensures ok { OnOk result (out.new ≡ out.old ++ encode_lower bytes.now) }
+    ensures err { OnErr result (out.new ≡ []) }
+{
+    let mut text = out.take_vec();
+    put_digits(&mut text, bytes)?;
+    out.swap_vec(&mut text);
+    Ok(())
 }
 
 /// A text with the line that shows a frame behind it: its place in the stream in decimal, its name

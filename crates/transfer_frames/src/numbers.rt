@@ -2,7 +2,8 @@
 
 ghost use Rattle.std.specs.Prelude.{◌≡◌, ◌+◌, ◌≤◌, ◌++◌, length};
 ghost use Rattle.std.specs.Vec.{vec_len, vec_capacity};
-ghost use Rattle.transfer_frames.specs.Numbers.{word_of, long_of, rid_of, word_bytes, long_bytes, rid_bytes};
+ghost use Rattle.transfer_frames.specs.Numbers.{word_of, long_of, rid_of, word_bytes, long_bytes};
+ghost use Rattle.transfer_frames.specs.Numbers.{rid_bytes};
 
 use plain_lists::append_reserved;
 

@@ -4,7 +4,8 @@ ghost use Rattle.std.specs.Prelude.{◌≡◌, ◌≤◌, true, None, Some, leng
 ghost use Rattle.std.specs.Int.{w32, cast_signed};
 ghost use Rattle.transfer_frames.specs.Numbers.{word_of, words_of};
 ghost use Rattle.transfer_frames.specs.Grammar.{type_at, Spells};
-ghost use Rattle.transfer_frames.specs.Faults.{word_fault, type_in, has_length, body_fault, frame_length, first_fault};
+ghost use Rattle.transfer_frames.specs.Faults.{word_fault, type_in, has_length, body_fault};
+ghost use Rattle.transfer_frames.specs.Faults.{frame_length, first_fault};
 ghost use Rattle.transfer_frames.specs.Front.{value, frame_in, IsSmall, Reads, TakesNoMemory};
 
 use crate::cause::{DecodeFault, FrameCause};

@@ -1,10 +1,12 @@
 //! The tests that a frame's bytes must pass, in their order.
 
-ghost use Rattle.std.specs.Prelude.{◌≡◌, ◌≤◌, ◌==◌, ◌/◌, true, length, MatchResult, OnOk, IfNone, Some, None};
+ghost use Rattle.std.specs.Prelude.{◌≡◌, ◌≤◌, ◌==◌, ◌/◌, true, length, MatchResult, OnOk, IfNone};
+ghost use Rattle.std.specs.Prelude.{Some, None};
 ghost use Rattle.std.specs.List.{list_any, list_all};
 ghost use Rattle.transfer_frames.specs.Numbers.{word_of, words_of};
 ghost use Rattle.transfer_frames.specs.Grammar.{type_at};
-ghost use Rattle.transfer_frames.specs.Faults.{word_fault, type_in, has_length, has_zero_rid, has_range, has_messages, body_fault};
+ghost use Rattle.transfer_frames.specs.Faults.{word_fault, type_in, has_length, has_zero_rid};
+ghost use Rattle.transfer_frames.specs.Faults.{has_range, has_messages, body_fault};
 
 use crate::cause::FrameCause;
 use crate::frame::{LARGEST_FRAME, LONGEST_TRANSFER};

@@ -3,7 +3,8 @@ use std::alloc::Global;
 use std::test::*;
 use wl_wire::{Bytes, Text};
 
-/// The line of the one frame that the bytes are, and its bytes as they are written once alone and once more behind.
+/// The line of the one frame that the bytes are, and its bytes as they are written once alone and
+/// once more behind.
 fn again(alloc: Global, bytes: &[u8]) -> Option<(Text, Bytes, usize)> {
     match first_frame(alloc, bytes) {
         Ok(Some((frame, length))) => {
@@ -241,6 +242,19 @@ fn long_frame(rt: HostRuntime) -> Result<(), Fail> {
     let large = [0x20, 0, 0, 2];
     let fault = DecodeFault::Frame(FrameCause::SizeLarge);
     assert_eq!(rt; front_of(rt.alloc(), &large), Err(fault));
+    Ok(())
+}
+
+#[test]
+fn digits_behind_a_text(rt: HostRuntime) -> Result<(), Fail> {
+    let mut text = Text::new(rt.alloc());
+    text.append(b"> ")?;
+    append_hex(&mut text, &[0, 0x9a, 0xff])?;
+    append_hex(&mut text, &[])?;
+    let shown: &[u8] = b"> 009aff";
+    assert_eq!(rt; text.as_slice(), shown);
+    append_hex(&mut text, &[1; 300])?;
+    assert_eq!(rt; text.len(), 608);
     Ok(())
 }
 

@@ -3,7 +3,7 @@ use Rattle.std.proofs.Common.{◌≡◌, ℕ, ◌+◌, ◌<◌, ◌≤◌, List,
 use Rattle.std.proofs.lemmas.List.{append-nil}
 use Rattle.std.proofs.Math.Seq.{take-add}
 use Rattle.wp_outside.specs.Pieces.{IfTold, held_with}
-use Rattle.waypipe_run.specs.Moving.{Took, TookAtMost}
+use Rattle.waypipe_run.specs.Moving.{Took, TookAtMost, TookNoMore}
 
 -- what is written behind a text
 pub held_more : (held : Option (List ℕ)) (text : List ℕ) (n m : ℕ) → held_with (held_with held (take n text)) (take m (drop n text)) ≡ held_with held (take (n + m) text)
@@ -54,3 +54,8 @@ pub took_above : (a b : Option (List ℕ)) (bytes : List ℕ) (most : ℕ) → T
 took_above None b bytes most taken more = tt
 took_above (Some left) None bytes most taken more = absurd taken
 took_above (Some left) (Some rest) bytes most taken more = omega (arith, ap length taken, length-append bytes rest)
+
+-- nothing is taken
+pub took_none : (a : Option (List ℕ)) → TookNoMore a a
+took_none None = tt
+took_none (Some left) = omega arith

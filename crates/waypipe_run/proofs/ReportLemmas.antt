@@ -75,10 +75,10 @@ ran steps line replayed it = record {
 
 pub reported : (texts : Bool) (steps : List Step) (line : ℕ → Line) (replayed : Replayed) (front : List ℕ) (told : Result Reply AllocError)
     → front ≡ report texts replayed.connections (counted_by replayed.application) (counted_by replayed.compositor)
-    → IfOk told (λ answer. EndsReport replayed answer.status front answer.text.items)
-    → Replays steps line replayed → IfOk told (λ answer. Reported texts steps answer.status line answer.text.items)
+    → IfOk told (λ answer. EndsReport replayed answer.status front answer.text)
+    → Replays steps line replayed → IfOk told (λ answer. Reported texts steps answer.status line answer.text)
 reported texts steps line replayed front (Ok answer) is ended it =
-    let ends_as = ends_so replayed.end steps line replayed it answer.status front answer.text.items ended in
+    let ends_as = ends_so replayed.end steps line replayed it answer.status front answer.text ended in
     let same : front ≡ report texts (connections_of it.pair) (counted_of Near it.pair) (counted_of Far it.pair) =
     is
     ∙ ap (λ (n : ℕ). report texts n (counted_by replayed.application) (counted_by replayed.compositor)) it.connections

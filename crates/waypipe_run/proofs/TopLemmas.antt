@@ -33,8 +33,8 @@ use Rattle.wp_outside.specs.declared.kinds.Side.TheVariants.{Near, Far}
 use Rattle.waypipe_run.specs.Built.{first_unbuilt}
 use Rattle.waypipe_run.specs.Moving.{Took, MOST_INPUT}
 use Rattle.waypipe_run.specs.Outcomes.{status_of, reader_of, frame_cause, peer_cause}
-use Rattle.waypipe_run.specs.Top.{InputState, OutputState, IsAnswer, IsLimit, Tells, TellsText, Printed, Outcome, Refused, Reported, IsScript, IsListed, TellsStream}
-use Rattle.waypipe_run.specs.TopLaws.{Due, DueOfBuilt, DueOfRead, RunsTo, OneIsDue, status_of_front, status_of_stream, OtherWords, StatusOfInput, StatusOfStream, GoesThrough, DrainsUnlessStopped}
+use Rattle.waypipe_run.specs.Top.{Outside, Output, IsAnswer, IsLimit, IsListed, IsReadFault, IsReplayed, IsUsage, Outcome, Printed, Refused, Replies, RepliesToStream, RepliesToText, Reported, IsScript}
+use Rattle.waypipe_run.specs.TopLaws.{Due, DueOfBuilt, DueOfRead, RunsTo, OneIsDue, status_of_front, status_of_stream, Hindered, ReadFailed, OtherWords, StatusOfInput, StatusOfStream, GoesThrough, DrainsUnlessStopped}
 use Rattle.waypipe_run.specs.Words.{Asks, IsReplay, IsFrames, IsCommand}
 use Rattle.waypipe_run.specs.declared.words.Command.{Command}
 use Rattle.waypipe_run.specs.declared.words.Command.TheVariants.{Replay, Frames}
@@ -83,13 +83,47 @@ read_left None rest bytes all is taken none = absurd (none_some all is)
 read_left (Some left) None bytes all is taken none = absurd taken
 read_left (Some left) (Some rest) bytes all is taken none = sym (taken ∙ ap (λ r. bytes ++ r) none ∙ append-nil bytes) ∙ some_same left all is
 
--- ---- what an input calls for
+-- ---- by what a status comes
 
--- a text that is a script all of whose lines are run
-due_of_run : (texts : Bool) (bytes : List ℕ) (steps : List Step) (answer : Status) (line : ℕ → Line) (text : List ℕ) → IsScript bytes steps → Reported texts steps answer line text → DueOfRead (steps_of bytes) answer
-due_of_run texts bytes steps answer line text script is =
-    subst (λ (told : Result (List Step) ScriptRead). DueOfRead told answer) (sym script.spelled)
-    (subst (λ (it : Option ℕ). DueOfBuilt it steps answer) (sym script.built) (record { pair = is.pair; end = is.end; runs = is.ran.runs; answered = is.answered }))
+-- each kind of reply gives what is asked for
+pub each_reply : {X : Type 0} (answer : Status) (words : List (String Global)) (old new : Outside) (text : List ℕ) → Replies answer words old new text
+    → (IsUsage answer words old new text → X) → (IsReadFault answer words old new text → X) → (IsLimit answer words old new text → X)
+    → (IsAnswer answer words old new text → X) → (IsListed answer words old new text → X) → X
+each_reply answer words old new text replies usage fault limit answered listed =
+    ⊎_elim usage (λ it. ⊎_elim fault (λ it. ⊎_elim limit (λ it. ⊎_elim answered listed it) it) it) replies
+
+-- a status is want of memory, or a write failed, or its whole text was written
+by_outcome : {X : Type 0} (answer : Status) (words : List (String Global)) (old new : Outside) (out written : Output) → Outcome answer words old new out written
+    → (Hindered answer out written → X) → (Printed answer words old new out written → X) → X
+by_outcome status.Memory words old new out written is hindered printed = hindered (inl refl)
+by_outcome status.WriteFault words old new out written is hindered printed = hindered (inr (refl, is.rose))
+by_outcome status.Done words old new out written is hindered printed = printed is
+by_outcome status.Usage words old new out written is hindered printed = printed is
+by_outcome status.ReadFault words old new out written is hindered printed = printed is
+by_outcome (status.Script line cause) words old new out written is hindered printed = printed is
+by_outcome (status.Peer side index cause) words old new out written is hindered printed = printed is
+by_outcome (status.Frame reader connection place cause) words old new out written is hindered printed = printed is
+by_outcome (status.Limit which) words old new out written is hindered printed = printed is
+by_outcome status.LinkFault words old new out written is hindered printed = printed is
+by_outcome (status.LinkDiffers connection direction place wrote read) words old new out written is hindered printed = printed is
+
+-- ---- other words
+
+asked : (command : Command) (words : List (String Global)) → Asks command words → IsCommand words
+asked (Replay texts) words asks = is_command texts words asks
+asked Frames words asks = inr (inr asks)
+
+pub other_words : OtherWords
+other_words answer words old new out written outcome other =
+    by_outcome answer words old new out written outcome inr
+    (λ printed. inl (each_reply answer words old new printed.text printed.replies
+    (λ usage. usage.answered)
+    (λ fault. absurd (other (asked fault.command words fault.asks)))
+    (λ limit. absurd (other (asked limit.command words limit.asks)))
+    (λ answered. absurd (other (is_command answered.texts words answered.asks)))
+    (λ listed. absurd (other (inr (inr listed.asks))))))
+
+-- ---- what an input calls for
 
 due_of_refused : (bytes : List ℕ) (line : ℕ) (cause : ScriptCause) → Refused bytes line cause → DueOfRead (steps_of bytes) (status.Script line cause)
 due_of_refused bytes line cause is = ⊎_elim
@@ -99,194 +133,76 @@ due_of_refused bytes line cause is = ⊎_elim
     is
 
 -- an answer to a text is the status that the text calls for
-text_status : (texts : Bool) (answer : Status) (bytes : List ℕ) (before after : ℕ → Line) (text : List ℕ) → TellsText texts answer bytes before after text → DueOfRead (steps_of bytes) answer
-text_status texts status.Done bytes before after text told = due_of_run texts bytes told.steps status.Done after text told.script told.reported
-text_status texts (status.Peer side index cause) bytes before after text told = due_of_run texts bytes told.steps (status.Peer side index cause) after text told.script told.reported
-text_status texts (status.Frame whose connection place cause) bytes before after text told = due_of_run texts bytes told.steps (status.Frame whose connection place cause) after text told.script told.reported
-text_status texts (status.Script line cause) bytes before after text told = due_of_refused bytes line cause told.refused
-text_status texts (status.Limit limits.Lines) bytes before after text told =
-    subst (λ (it : Result (List Step) ScriptRead). DueOfRead it (status.Limit limits.Lines)) (sym told.above) refl
-text_status texts (status.Limit limits.File) bytes before after text told = absurd told
-text_status texts (status.Limit limits.Files) bytes before after text told = absurd told
-text_status texts (status.Limit limits.Trail) bytes before after text told = absurd told
-text_status texts (status.Limit limits.Connections) bytes before after text told = absurd told
-text_status texts (status.Limit limits.Input) bytes before after text told = absurd told
-text_status texts status.Memory bytes before after text told = absurd told
-text_status texts status.Usage bytes before after text told = absurd told
-text_status texts status.ReadFault bytes before after text told = absurd told
-text_status texts status.WriteFault bytes before after text told = absurd told
-text_status texts status.LinkFault bytes before after text told = absurd told
-text_status texts (status.LinkDiffers connection direction place wrote read) bytes before after text told = absurd told
+text_status : (texts : Bool) (answer : Status) (bytes : List ℕ) (before after : ℕ → Line) (text : List ℕ) → RepliesToText texts answer bytes before after text → DueOfRead (steps_of bytes) answer
+text_status texts answer bytes before after text replies = ⊎_elim
+    (λ replayed.
+    let is = replayed.reported in
+    let built : DueOfBuilt (first_unbuilt replayed.steps) replayed.steps answer =
+    subst (λ (it : Option ℕ). DueOfBuilt it replayed.steps answer) (sym replayed.script.built) (record { pair = is.pair; end = is.end; runs = is.ran.runs; answered = is.answered }) in
+    subst (λ (told : Result (List Step) ScriptRead). DueOfRead told answer) (sym replayed.script.spelled) built)
+    (λ others. ⊎_elim
+    (λ none. subst (DueOfRead (steps_of bytes)) (sym none.answered) (due_of_refused bytes none.line none.cause none.refused))
+    (λ long. subst (λ (told : Result (List Step) ScriptRead). DueOfRead told answer) (sym long.above) long.answered)
+    others)
+    replies
 
--- an answer to an input that is told
-answer_status : (answer : Status) (words : List (String Global)) (old new : InputState) (before after : ℕ → Line) (text all : List ℕ) → IsAnswer answer words old new before after text → old.left ≡ Some all → Due all answer
-answer_status answer words old new before after text all is told =
+-- what is left of an input that is told, where more is left than the program reads
+left_above : (left : Option (List ℕ)) (all : List ℕ) → left ≡ Some all → IfTold left (λ it. MOST_INPUT < length it) → MOST_INPUT < length all
+left_above left all told above = subst (λ (o : Option (List ℕ)). IfTold o (λ it. MOST_INPUT < length it)) told above
+
+answer_status : (answer : Status) (words : List (String Global)) (old new : Outside) (text all : List ℕ) → IsAnswer answer words old new text → old.left ≡ Some all → Due all answer
+answer_status answer words old new text all is told =
     let same = read_left old.left new.left is.bytes all told is.read.taken is.read.nothing_left in
-    subst (λ (b : List ℕ). Due b answer) same (inr (is.read.bounded, text_status is.texts answer is.bytes before after text is.told))
+    subst (λ (b : List ℕ). Due b answer) same (inr (is.read.bounded, text_status is.texts answer is.bytes old.line new.line text is.replies))
 
--- a limit that was met
-limit_status : (which : Limit) (words : List (String Global)) (old new : InputState) (before after : ℕ → Line) (text all : List ℕ) → IsLimit which words old new before after text → old.left ≡ Some all → Due all (status.Limit which)
-limit_status which words old new before after text all is told =
-    let many : MOST_INPUT < length all = subst (λ (o : Option (List ℕ)). IfTold o (λ left. MOST_INPUT < length left)) told is.above in
-    inl (many, ap status.Limit is.input)
-
--- the status of the command where its whole text was written
-printed_status : (answer : Status) (texts : Bool) (words : List (String Global)) (old new : InputState) (before after : ℕ → Line) (text all : List ℕ) → Tells answer words old new before after text → IsReplay texts words → old.left ≡ Some all
-    → Due all answer ⊎ ((answer ≡ status.ReadFault) × Rose old.faults new.faults)
-printed_status status.Done texts words old new before after text all told command left = ⊎_elim
-    (λ is. inl (answer_status status.Done words old new before after text all is left))
-    (λ listed. absurd (two_commands texts words command listed.command))
-    told
-printed_status (status.Frame whose connection place cause) texts words old new before after text all told command left = ⊎_elim
-    (λ is. inl (answer_status (status.Frame whose connection place cause) words old new before after text all is left))
-    (λ listed. absurd (two_commands texts words command listed.command))
-    told
-printed_status (status.Peer side index cause) texts words old new before after text all told command left = inl (answer_status (status.Peer side index cause) words old new before after text all told left)
-printed_status (status.Script line cause) texts words old new before after text all told command left = inl (answer_status (status.Script line cause) words old new before after text all told left)
-printed_status (status.Limit which) texts words old new before after text all told command left = ⊎_elim
-    (λ is. inl (limit_status which words old new before after text all is left))
-    (λ is. inl (answer_status (status.Limit which) words old new before after text all is left))
-    told
-printed_status status.ReadFault texts words old new before after text all told command left = inr (refl, told.rose)
-printed_status status.Usage texts words old new before after text all told command left = absurd (told.no_command (is_command texts words command))
-printed_status status.Memory texts words old new before after text all told command left = absurd told
-printed_status status.WriteFault texts words old new before after text all told command left = absurd told
-printed_status status.LinkFault texts words old new before after text all told command left = absurd told
-printed_status (status.LinkDiffers connection direction place wrote read) texts words old new before after text all told command left = absurd told
-
--- the status of other words where its whole text was written
-answered : (answer : Status) (words : List (String Global)) (old new : InputState) (before after : ℕ → Line) (text : List ℕ) → IsAnswer answer words old new before after text → IsCommand words
-answered answer words old new before after text is = is_command is.texts words is.command
-
-asked : (command : Command) (words : List (String Global)) → Asks command words → IsCommand words
-asked (Replay texts) words asks = is_command texts words asks
-asked Frames words asks = inr (inr asks)
-
-printed_usage : (answer : Status) (words : List (String Global)) (old new : InputState) (before after : ℕ → Line) (text : List ℕ) → Tells answer words old new before after text → (IsCommand words → ⊥) → answer ≡ status.Usage
-printed_usage status.Done words old new before after text told other = ⊎_elim
-    (λ is. absurd (other (answered status.Done words old new before after text is)))
-    (λ listed. absurd (other (inr (inr listed.command))))
-    told
-printed_usage (status.Frame whose connection place cause) words old new before after text told other = ⊎_elim
-    (λ is. absurd (other (answered (status.Frame whose connection place cause) words old new before after text is)))
-    (λ listed. absurd (other (inr (inr listed.command))))
-    told
-printed_usage (status.Peer side index cause) words old new before after text told other = absurd (other (answered (status.Peer side index cause) words old new before after text told))
-printed_usage (status.Script line cause) words old new before after text told other = absurd (other (answered (status.Script line cause) words old new before after text told))
-printed_usage (status.Limit which) words old new before after text told other = ⊎_elim
-    (λ is. absurd (other (asked is.command words is.asks)))
-    (λ is. absurd (other (answered (status.Limit which) words old new before after text is)))
-    told
-printed_usage status.ReadFault words old new before after text told other = absurd (other (asked told.command words told.asks))
-printed_usage status.Usage words old new before after text told other = refl
-printed_usage status.Memory words old new before after text told other = absurd told
-printed_usage status.WriteFault words old new before after text told other = absurd told
-printed_usage status.LinkFault words old new before after text told other = absurd told
-printed_usage (status.LinkDiffers connection direction place wrote read) words old new before after text told other = absurd told
+pub status_decided : StatusOfInput
+status_decided texts answer words old new out written bytes outcome command left =
+    by_outcome answer words old new out written outcome (λ hindered. inr (inl hindered))
+    (λ printed. each_reply answer words old new printed.text printed.replies
+    (λ usage. absurd (usage.no_command (is_command texts words command)))
+    (λ fault. inr (inr (fault.answered, fault.rose)))
+    (λ limit. inl (inl (left_above old.left bytes left limit.above, limit.answered)))
+    (λ answered. inl (answer_status answer words old new printed.text bytes answered left))
+    (λ listed. absurd (two_commands texts words command listed.asks)))
 
 -- ---- what a stream calls for
 
 -- an answer to a stream is the status that the stream calls for
-stream_told : (answer : Status) (bytes text : List ℕ) (frames : List Frame) (rest : List ℕ) → TellsStream answer bytes text → Lists bytes frames rest → status_of_front (front rest) (length (flat_map spelling frames)) ≡ answer
-stream_told status.Done bytes text frames rest told lists =
-    let once = listed_once bytes told.frames frames told.rest rest told.lists lists in
-    ap (λ (r : List ℕ). status_of_front (front r) (length (flat_map spelling frames))) (sym once.1)
-    ∙ ap (λ f. status_of_front f (length (flat_map spelling frames))) told.waits
-stream_told (status.Frame whose connection place cause) bytes text frames rest told lists =
-    let once = listed_once bytes told.frames frames told.rest rest told.lists lists in
-    ap (λ (r : List ℕ). status_of_front (front r) (length (flat_map spelling frames))) (sym once.1)
-    ∙ ap (λ f. status_of_front f (length (flat_map spelling frames))) told.fault
-    ∙ ap (λ (fs : List Frame). status.Frame reader.Input 0 (length (flat_map spelling fs)) cause) (sym once.0)
-    ∙ ap (λ (p : ℕ). status.Frame reader.Input 0 p cause) (sym told.behind)
-    ∙ ap (λ (c : ℕ). status.Frame reader.Input c place cause) (sym told.no_connection)
-    ∙ ap (λ (r : Reader). status.Frame r connection place cause) (sym told.input)
-stream_told status.Memory bytes text frames rest told lists = absurd told
-stream_told status.Usage bytes text frames rest told lists = absurd told
-stream_told status.ReadFault bytes text frames rest told lists = absurd told
-stream_told status.WriteFault bytes text frames rest told lists = absurd told
-stream_told (status.Script line cause) bytes text frames rest told lists = absurd told
-stream_told (status.Peer side index cause) bytes text frames rest told lists = absurd told
-stream_told (status.Limit which) bytes text frames rest told lists = absurd told
-stream_told status.LinkFault bytes text frames rest told lists = absurd told
-stream_told (status.LinkDiffers connection direction place wrote read) bytes text frames rest told lists = absurd told
+stream_told : (answer : Status) (bytes text : List ℕ) (frames : List Frame) (rest : List ℕ) → RepliesToStream answer bytes text → Lists bytes frames rest → answer ≡ status_of_front (front rest) (length (flat_map spelling frames))
+stream_told answer bytes text frames rest replies lists = ⊎_elim
+    (λ is.
+    let once = listed_once bytes is.frames frames is.rest rest is.lists lists in
+    is.answered ∙ ap (λ f. status_of_front f (length (flat_map spelling frames))) (sym is.waits ∙ ap front once.1))
+    (λ is.
+    let once = listed_once bytes is.frames frames is.rest rest is.lists lists in
+    is.answered
+    ∙ ap (λ f. status_of_front f (length (flat_map spelling is.frames))) (sym is.fault ∙ ap front once.1)
+    ∙ ap (λ (fs : List Frame). status_of_front (front rest) (length (flat_map spelling fs))) once.0)
+    replies
 
--- an answer to a stream that is told
-listed_status : (answer : Status) (words : List (String Global)) (old new : InputState) (before after : ℕ → Line) (text all : List ℕ) (frames : List Frame) (rest : List ℕ) → IsListed answer words old new before after text → old.left ≡ Some all → Lists all frames rest → answer ≡ status_of_stream all frames rest
-listed_status answer words old new before after text all frames rest is told lists =
+listed_status : (answer : Status) (words : List (String Global)) (old new : Outside) (text all : List ℕ) (frames : List Frame) (rest : List ℕ) → IsListed answer words old new text → old.left ≡ Some all → Lists all frames rest → answer ≡ status_of_stream all frames rest
+listed_status answer words old new text all frames rest is told lists =
     let same = read_left old.left new.left is.bytes all told is.read.taken is.read.nothing_left in
     let few : length all ≤ MOST_INPUT = subst (λ (b : List ℕ). length b ≤ MOST_INPUT) same is.read.bounded in
-    let own : TellsStream answer all text = subst (λ (b : List ℕ). TellsStream answer b text) same is.told in
-    sym (ap (λ b. cond b (status.Limit limits.Input) (status_of_front (front rest) (length (flat_map spelling frames)))) (not_above all few) ∙ stream_told answer all text frames rest own lists)
+    let own : RepliesToStream answer all text = subst (λ (b : List ℕ). RepliesToStream answer b text) same is.replies in
+    stream_told answer all text frames rest own lists
+    ∙ sym (ap (λ b. cond b (status.Limit limits.Input) (status_of_front (front rest) (length (flat_map spelling frames)))) (not_above all few))
 
-limit_stream : (which : Limit) (words : List (String Global)) (old new : InputState) (before after : ℕ → Line) (text all : List ℕ) (frames : List Frame) (rest : List ℕ) → IsLimit which words old new before after text → old.left ≡ Some all → status.Limit which ≡ status_of_stream all frames rest
-limit_stream which words old new before after text all frames rest is told =
-    let many : MOST_INPUT < length all = subst (λ (o : Option (List ℕ)). IfTold o (λ left. MOST_INPUT < length left)) told is.above in
-    ap status.Limit is.input ∙ sym (ap (λ b. cond b (status.Limit limits.Input) (status_of_front (front rest) (length (flat_map spelling frames)))) (above all many))
-
--- the status of the listing of a stream where its whole text was written
-stream_status : (answer : Status) (words : List (String Global)) (old new : InputState) (before after : ℕ → Line) (text all : List ℕ) (frames : List Frame) (rest : List ℕ) → Tells answer words old new before after text → IsFrames words → old.left ≡ Some all → Lists all frames rest
-    → (answer ≡ status_of_stream all frames rest) ⊎ ((answer ≡ status.ReadFault) × Rose old.faults new.faults)
-stream_status status.Done words old new before after text all frames rest told command left lists = ⊎_elim
-    (λ is. absurd (two_commands is.texts words is.command command))
-    (λ listed. inl (listed_status status.Done words old new before after text all frames rest listed left lists))
-    told
-stream_status (status.Frame whose connection place cause) words old new before after text all frames rest told command left lists = ⊎_elim
-    (λ is. absurd (two_commands is.texts words is.command command))
-    (λ listed. inl (listed_status (status.Frame whose connection place cause) words old new before after text all frames rest listed left lists))
-    told
-stream_status (status.Peer side index cause) words old new before after text all frames rest told command left lists = absurd (two_commands told.texts words told.command command)
-stream_status (status.Script line cause) words old new before after text all frames rest told command left lists = absurd (two_commands told.texts words told.command command)
-stream_status (status.Limit which) words old new before after text all frames rest told command left lists = ⊎_elim
-    (λ is. inl (limit_stream which words old new before after text all frames rest is left))
-    (λ is. absurd (two_commands is.texts words is.command command))
-    told
-stream_status status.ReadFault words old new before after text all frames rest told command left lists = inr (refl, told.rose)
-stream_status status.Usage words old new before after text all frames rest told command left lists = absurd (told.no_command (inr (inr command)))
-stream_status status.Memory words old new before after text all frames rest told command left lists = absurd told
-stream_status status.WriteFault words old new before after text all frames rest told command left lists = absurd told
-stream_status status.LinkFault words old new before after text all frames rest told command left lists = absurd told
-stream_status (status.LinkDiffers connection direction place wrote read) words old new before after text all frames rest told command left lists = absurd told
-
--- ---- the laws
-
--- a status is want of memory, or a write failed, or its whole text was written
-outcome_cases : (answer : Status) (words : List (String Global)) (old new : InputState) (before after : ℕ → Line) (out written : OutputState) → Outcome answer words old new before after out written
-    → (answer ≡ status.Memory) ⊎ (((answer ≡ status.WriteFault) × Rose out.faults written.faults) ⊎ Printed answer words old new before after out written)
-outcome_cases status.Memory words old new before after out written is = inl refl
-outcome_cases status.WriteFault words old new before after out written is = inr (inl (refl, is.rose))
-outcome_cases status.Done words old new before after out written is = inr (inr is)
-outcome_cases status.Usage words old new before after out written is = inr (inr is)
-outcome_cases status.ReadFault words old new before after out written is = inr (inr is)
-outcome_cases (status.Script line cause) words old new before after out written is = inr (inr is)
-outcome_cases (status.Peer side index cause) words old new before after out written is = inr (inr is)
-outcome_cases (status.Frame reader connection place cause) words old new before after out written is = inr (inr is)
-outcome_cases (status.Limit which) words old new before after out written is = inr (inr is)
-outcome_cases status.LinkFault words old new before after out written is = inr (inr is)
-outcome_cases (status.LinkDiffers connection direction place wrote read) words old new before after out written is = inr (inr is)
-
-pub other_words : OtherWords
-other_words answer words old new before after out written outcome other = ⊎_elim
-    (λ memory. inr (inl memory))
-    (λ rest. ⊎_elim (λ failed. inr (inr failed)) (λ printed. inl (printed_usage answer words old new before after printed.text printed.told other)) rest)
-    (outcome_cases answer words old new before after out written outcome)
-
-pub status_decided : StatusOfInput
-status_decided texts answer words old new before after out written bytes outcome command left = ⊎_elim
-    (λ memory. inr (inl (inl memory)))
-    (λ rest. ⊎_elim
-    (λ failed. inr (inl (inr failed)))
-    (λ printed. ⊎_elim (λ is. inl is) (λ fault. inr (inr fault)) (printed_status answer texts words old new before after printed.text bytes printed.told command left))
-    rest)
-    (outcome_cases answer words old new before after out written outcome)
+limit_stream : (answer : Status) (words : List (String Global)) (old new : Outside) (text all : List ℕ) (frames : List Frame) (rest : List ℕ) → IsLimit answer words old new text → old.left ≡ Some all → answer ≡ status_of_stream all frames rest
+limit_stream answer words old new text all frames rest is told =
+    is.answered ∙ sym (ap (λ b. cond b (status.Limit limits.Input) (status_of_front (front rest) (length (flat_map spelling frames)))) (above all (left_above old.left all told is.above)))
 
 pub stream_decided : StatusOfStream
-stream_decided answer words old new before after out written bytes frames rest outcome command left lists = ⊎_elim
-    (λ memory. inr (inl (inl memory)))
-    (λ others. ⊎_elim
-    (λ failed. inr (inl (inr failed)))
-    (λ printed. ⊎_elim (λ is. inl is) (λ fault. inr (inr fault)) (stream_status answer words old new before after printed.text bytes frames rest printed.told command left lists))
-    others)
-    (outcome_cases answer words old new before after out written outcome)
+stream_decided answer words old new out written bytes frames rest outcome command left lists =
+    by_outcome answer words old new out written outcome (λ hindered. inr (inl hindered))
+    (λ printed. each_reply answer words old new printed.text printed.replies
+    (λ usage. absurd (usage.no_command (inr (inr command))))
+    (λ fault. inr (inr (fault.answered, fault.rose)))
+    (λ limit. inl (limit_stream answer words old new printed.text bytes frames rest limit left))
+    (λ answered. absurd (two_commands answered.texts words answered.asks command))
+    (λ listed. inl (listed_status answer words old new printed.text bytes frames rest listed left lists)))
+
+-- ---- the laws
 
 -- one input, one status: a script's runs all end alike
 same_peer : (side : Side) (cause : PeerCause) (a b : Half) → a.order ≡ b.order → status.Peer side (length (taken_by side a)) cause ≡ status.Peer side (length (taken_by side b)) cause
@@ -340,10 +256,10 @@ done_of_script bytes steps answer script all due =
     run.answered ∙ no_fault_done run.end run.pair (λ fault is. no_fault_comes steps run.pair fault all (subst (Runs steps run.pair) is run.runs))
 
 pub goes_through : GoesThrough
-goes_through texts answer words old new before after out written bytes steps outcome command left few script all no_read no_write = ⊎_elim
+goes_through texts answer words old new out written bytes steps outcome command left few script all no_read no_write = ⊎_elim
     (λ due. ⊎_elim (λ above. absurd (above_within (length bytes) above.0 few)) (λ within. inl (done_of_script bytes steps answer script all within.1)) due)
     (λ others. ⊎_elim (λ hindered. ⊎_elim (λ memory. inr memory) (λ failed. absurd (no_write failed.1)) hindered) (λ fault. absurd (no_read fault.1)) others)
-    (status_decided texts answer words old new before after out written bytes outcome command left)
+    (status_decided texts answer words old new out written bytes outcome command left)
 
 pub drains_unless_stopped : DrainsUnlessStopped
 drains_unless_stopped steps pair ends.Drained line ran done all = (refl, ran.came.0)

@@ -1,8 +1,12 @@
--- Which lines of a script the program runs. The others are read and refused. The script language is this project's own.
-use Rattle.std.specs.Prelude.{ℕ, Bool, true, false, ◌==◌, if◌then◌else◌, List, [], ◌∷◌, length, Option, Some, None}
+-- Which lines of a script the program runs. The others are read and refused. The script language is
+-- this project's own.
+use Rattle.std.specs.Prelude.{ℕ, Bool, true, false, ◌==◌, if◌then◌else◌, List, [], ◌∷◌, length}
+use Rattle.std.specs.Prelude.{Option, Some, None}
 use Rattle.script_lang.specs.declared.steps.Step.{Step}
 use Rattle.script_lang.specs.declared.steps.StepKind.{StepKind}
-use Rattle.script_lang.specs.declared.steps.StepKind.TheVariants.{Hex, Say, Await, Take, Connect, Send, Recv, Both, Cut, Settle, Drain, Stop}
+use Rattle.script_lang.specs.declared.steps.StepKind.TheVariants.{Hex, Say, Await, Take, Connect}
+use Rattle.script_lang.specs.declared.steps.StepKind.TheVariants.{Send, Recv, Both, Cut, Settle}
+use Rattle.script_lang.specs.declared.steps.StepKind.TheVariants.{Drain, Stop}
 
 -- whether a line is run; a message is where it carries no handle
 abbrev pub is_built : StepKind → Bool

@@ -1,7 +1,9 @@
 -- The exit statuses of the program, which are this project's own.
 use Rattle.std.specs.Prelude.{ℕ}
 use Rattle.waypipe_run.specs.declared.status.Status.{Status}
-use Rattle.waypipe_run.specs.declared.status.Status.TheVariants.{Done, Memory, Usage, ReadFault, WriteFault, Script, Peer, Frame, Limit, LinkFault, LinkDiffers}
+use Rattle.waypipe_run.specs.declared.status.Status.TheVariants.{Done, Memory, Usage, ReadFault}
+use Rattle.waypipe_run.specs.declared.status.Status.TheVariants.{WriteFault, Script, Peer, Frame}
+use Rattle.waypipe_run.specs.declared.status.Status.TheVariants.{Limit, LinkFault, LinkDiffers}
 
 abbrev pub code_of : Status → ℕ
 code_of Done = 0

@@ -19,14 +19,17 @@ peer_of Far replayed = replayed.compositor
 
 -- the status that an end gives, and the last line behind a report
 abbrev pub EndsBy : End → Replayed → Status → List ℕ → List ℕ → Type 0
-EndsBy ends.Drained replayed answer report text = (answer ≡ status.Done) × (text ≡ report ++ drained_text)
-EndsBy ends.Stopped replayed answer report text = (answer ≡ status.Done) × (text ≡ report ++ stopped_text)
+EndsBy ends.Drained replayed answer report text =
+    (answer ≡ status.Done) × (text ≡ report ++ drained_text)
+EndsBy ends.Stopped replayed answer report text =
+    (answer ≡ status.Done) × (text ≡ report ++ stopped_text)
 EndsBy (ends.Fault (faults.Peer side cause)) replayed answer report text =
     (answer ≡ status.Peer side (peer_of side replayed).sent (peer_cause cause))
     × (text ≡ report ++ peer_text side (peer_of side replayed).sent (peer_cause cause))
 EndsBy (ends.Fault (faults.Frame side cause)) replayed answer report text =
     (answer ≡ status.Frame (reader_of side) 1 (peer_of side replayed).place (frame_cause cause))
-    × (text ≡ report ++ frame_text (reader_of side) 1 (peer_of side replayed).place (frame_cause cause))
+    × (text ≡ report
+    ++ frame_text (reader_of side) 1 (peer_of side replayed).place (frame_cause cause))
 
 abbrev pub EndsReport : Replayed → Status → List ℕ → List ℕ → Type 0
 EndsReport replayed answer report text = EndsBy replayed.end replayed answer report text

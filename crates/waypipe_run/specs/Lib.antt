@@ -4,6 +4,7 @@ pub mod Endings
 pub mod Moving
 pub mod Names
 pub mod Outcomes
+pub mod Parts
 pub mod Printing
 pub mod Report
 pub mod Streams

@@ -1,5 +1,6 @@
--- The names by which the program prints causes. The faults of messages are those of the Wayland wire format; the names,
--- and all other causes, are this project's own. Of a cause inside another one the innermost alone is printed.
+-- The names by which the program prints causes. The faults of messages are those of the Wayland
+-- wire format; the names, and all other causes, are this project's own. Of a cause inside another
+-- one the innermost alone is printed.
 use Rattle.std.specs.Prelude.{ℕ, List, [], ◌∷◌, codes, decimal}
 use Rattle.wl_wire.specs.declared.faults.WireFault.{WireFault}
 use Rattle.wl_wire.specs.declared.faults.WireFault.TheVariants as wire

@@ -1,4 +1,5 @@
--- What a replay comes to: its status, its last line, and the sentences that hold of it, over the bytes of the script and what the link tells. The messages are those of the Wayland protocol.
+-- What a replay comes to: its status, its last line, and the sentences that hold of it, over the
+-- bytes of the script and what the link tells. The messages are those of the Wayland protocol.
 use Rattle.std.specs.Prelude.{◌≡◌, ◌≢◌, ℕ, if◌then◌else◌, List, ◌++◌, length}
 use Rattle.transfer_frames.specs.declared.cause.FrameCause.{FrameCause}
 use Rattle.transfer_frames.specs.declared.cause.FrameCause.TheVariants.{PeerMessage, RidCount}
@@ -42,14 +43,16 @@ abbrev pub reader_of : Side → Reader
 reader_of side.Near = reader.Near
 reader_of side.Far = reader.Far
 
--- the status of a replay: a peer's message is named by how many were taken before it, a frame by how many bytes stand before it
+-- the status of a replay: a peer's message is named by how many were taken before it, a frame by
+-- how many bytes stand before it
 abbrev pub status_of : Pair → End → Status
 status_of pair ends.Drained = status.Done
 status_of pair ends.Stopped = status.Done
 status_of pair (ends.Fault (faults.Peer beside cause)) =
     status.Peer beside (length (taken_by beside (half_of beside pair))) (peer_cause cause)
 status_of pair (ends.Fault (faults.Frame beside cause)) =
-    status.Frame (reader_of beside) 1 (length (frames_of (given_by beside (half_of beside pair)))) (frame_cause cause)
+    status.Frame (reader_of beside) 1 (length (frames_of (given_by beside (half_of beside pair))))
+    (frame_cause cause)
 
 -- its last line
 abbrev pub last_line : Pair → End → List ℕ
@@ -58,7 +61,8 @@ last_line pair ends.Stopped = stopped_text
 last_line pair (ends.Fault (faults.Peer beside cause)) =
     peer_text beside (length (taken_by beside (half_of beside pair))) (peer_cause cause)
 last_line pair (ends.Fault (faults.Frame beside cause)) =
-    frame_text (reader_of beside) 1 (length (frames_of (given_by beside (half_of beside pair)))) (frame_cause cause)
+    frame_text (reader_of beside) 1 (length (frames_of (given_by beside (half_of beside pair))))
+    (frame_cause cause)
 
 -- what is reported of a peer and the proxy beside it
 abbrev pub counted_of : Side → Pair → Counted
@@ -75,7 +79,9 @@ pub record Decoded (bytes : List ℕ) (messages : List (List ℕ)) : Type 0 wher
   pub rest : List ℕ
   pub row : bytes ≡ frames_of messages ++ rest
 
--- what the link tells of a replay: connection 1 alone; what was pushed up is a front of the frames of the messages that the application's proxy took, and what was pushed down of those that are shown of the compositor's; what the peers received was decoded from what was pulled
+-- what the link tells of a replay: connection 1 alone; what was pushed up is a front of the frames
+-- of the messages that the application's proxy took, and what was pushed down of those that are
+-- shown of the compositor's; what the peers received was decoded from what was pulled
 pub record OverLink (pair : Pair) (line : ℕ → Line) : Type 0 where
   pub pushed_up : IsFront (line 1).up.pushed (frames_of (taken_by side.Near pair.near))
   pub pushed_down : IsFront (line 1).down.pushed (frames_of (visible first_state pair.far.order))
@@ -88,9 +94,11 @@ pub record OverLink (pair : Pair) (line : ℕ → Line) : Type 0 where
 pub record Ran (steps : List Step) (pair : Pair) (end : End) (line : ℕ → Line) : Type 0 where
   -- the script's lines did this, step by step
   pub runs : Runs steps pair end
-  -- each peer received a front of what the other put on its wire, each message once, the application through the registry view
+  -- each peer received a front of what the other put on its wire, each message once, the
+  -- application through the registry view
   pub holds : Holds steps pair
-  -- how it ended says what else it came to: all of it where it drained, the message that was refused where a fault came
+  -- how it ended says what else it came to: all of it where it drained, the message that was
+  -- refused where a fault came
   pub came : EndsWith end steps pair
   -- the messages passed in allowed orders
   pub allowed : Allowed steps pair.near.order pair.far.order

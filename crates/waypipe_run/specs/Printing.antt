@@ -1,4 +1,5 @@
--- That the messages which peers receive, requests and events of the Wayland protocol, can be printed.
+-- That the messages which peers receive, requests and events of the Wayland protocol, can be
+-- printed.
 use Rattle.std.specs.Prelude.{List, []}
 use Rattle.std.specs.List.{AllByRecursion}
 use Rattle.wl_tables.specs.declared.way.Way.{Way}

@@ -6,7 +6,8 @@ use Rattle.waypipe_run.specs.declared.causes.PeerCause.{PeerCause}
 use Rattle.waypipe_run.specs.declared.causes.Limit.{Limit}
 use Rattle.transfer_frames.specs.declared.cause.FrameCause.{FrameCause}
 use Rattle.waypipe_run.specs.declared.status.Reader.{Reader}
-use Rattle.waypipe_run.specs.Names.{script_name, peer_name, limit_name, side_name, reader_name, frame_name, frame_detail}
+use Rattle.waypipe_run.specs.Names.{script_name, peer_name, limit_name, side_name, reader_name}
+use Rattle.waypipe_run.specs.Names.{frame_name, frame_detail}
 
 unfoldable pub usage_text : List ℕ
 usage_text = codes "usage: waypipe replay [--text] [--long] or frames or trial N or session [--workers N] [--link memory or tcp] [--text] [--long]\n"
@@ -21,17 +22,23 @@ unfoldable pub stopped_text : List ℕ
 stopped_text = codes "stopped\n"
 
 unfoldable pub script_text : ℕ → ScriptCause → List ℕ
-script_text line cause = codes "script line " ++ (decimal line ++ (codes ": " ++ (script_name cause ++ (10 ∷ []))))
+script_text line cause =
+    codes "script line " ++ (decimal line ++ (codes ": " ++ (script_name cause ++ (10 ∷ []))))
 
 unfoldable pub peer_text : Side → ℕ → PeerCause → List ℕ
-peer_text side index cause = codes "peer " ++ (side_name side ++ (codes " message " ++ (decimal index ++ (codes ": " ++ (peer_name cause ++ (10 ∷ []))))))
+peer_text side index cause =
+    codes "peer " ++ (side_name side
+    ++ (codes " message " ++ (decimal index
+    ++ (codes ": " ++ (peer_name cause ++ (10 ∷ []))))))
 
 unfoldable pub limit_text : Limit → List ℕ
 limit_text which = codes "limit " ++ (limit_name which ++ (10 ∷ []))
 
 unfoldable pub frame_text : Reader → ℕ → ℕ → FrameCause → List ℕ
 frame_text reader connection place cause =
-    codes "frame " ++ (reader_name reader ++ (codes " connection " ++ (decimal connection ++ (codes " place " ++ (decimal place
+    codes "frame " ++ (reader_name reader
+    ++ (codes " connection " ++ (decimal connection
+    ++ (codes " place " ++ (decimal place
     ++ (codes ": " ++ (frame_name cause ++ (frame_detail cause ++ (10 ∷ [])))))))))
 
 unfoldable pub rest_text : ℕ → List ℕ

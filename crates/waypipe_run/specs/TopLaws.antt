@@ -1,5 +1,7 @@
--- Laws of the program's call: which status an input calls for, that it is one, and that no other one comes but by an outside fault or for want of memory.
-use Rattle.std.specs.Prelude.{◌≡◌, ℕ, ◌<◌, ◌≤◌, Option, Some, None, Result, Ok, Err, ◌⊎◌, List, length, nat_lt, if◌then◌else◌, Bool, String}
+-- Laws of the program's call: which status an input calls for, that it is one, and that no other
+-- one comes but by an outside fault or for want of memory.
+use Rattle.std.specs.Prelude.{◌≡◌, ℕ, ◌<◌, ◌≤◌, Option, Some, None, Result, Ok, Err, ◌⊎◌}
+use Rattle.std.specs.Prelude.{List, length, nat_lt, if◌then◌else◌, Bool, String}
 use Rattle.std.specs.List.{flat_map}
 use Rattle.std.specs.declared.alloc.Global.{Global}
 use Rattle.transfer_frames.specs.Grammar.{spelling}
@@ -24,7 +26,7 @@ use Rattle.wp_outside.specs.Lines.{Line}
 use Rattle.waypipe_run.specs.Built.{first_unbuilt}
 use Rattle.waypipe_run.specs.Moving.{MOST_INPUT}
 use Rattle.waypipe_run.specs.Outcomes.{Ran, status_of}
-use Rattle.waypipe_run.specs.Top.{InputState, OutputState, Outcome, IsScript}
+use Rattle.waypipe_run.specs.Top.{Outside, Output, Outcome, IsScript}
 use Rattle.waypipe_run.specs.Words.{IsReplay, IsFrames, IsCommand}
 use Rattle.waypipe_run.specs.declared.causes.Limit.TheVariants.{Input, Lines}
 use Rattle.waypipe_run.specs.declared.status.Reader.TheVariants as reader
@@ -52,26 +54,40 @@ DueOfRead (Err read.Memory) answer = ⊥
 
 -- the status that an input calls for
 abbrev pub Due : List ℕ → Status → Type 0
-Due bytes answer = ((MOST_INPUT < length bytes) × (answer ≡ status.Limit Input)) ⊎ ((length bytes ≤ MOST_INPUT) × DueOfRead (steps_of bytes) answer)
+Due bytes answer =
+    ((MOST_INPUT < length bytes) × (answer ≡ status.Limit Input))
+    ⊎ ((length bytes ≤ MOST_INPUT) × DueOfRead (steps_of bytes) answer)
 
 -- an input calls for one status
 abbrev pub OneIsDue : Type 0
 OneIsDue = (bytes : List ℕ) (one other : Status) → Due bytes one → Due bytes other → one ≡ other
 
 -- want of memory, or a write that failed
-abbrev pub Hindered : Status → OutputState → OutputState → Type 0
-Hindered answer out written = (answer ≡ status.Memory) ⊎ ((answer ≡ status.WriteFault) × Rose out.faults written.faults)
+abbrev pub Hindered : Status → (out written : Output) → Type 0
+Hindered answer out written =
+    (answer ≡ status.Memory) ⊎ ((answer ≡ status.WriteFault) × Rose out.faults written.faults)
 
 -- words that are no command are always answered so
 abbrev pub OtherWords : Type 0
-OtherWords = (answer : Status) (words : List (String Global)) (old new : InputState) (before after : ℕ → Line) (out written : OutputState)
-    → Outcome answer words old new before after out written → (IsCommand words → ⊥) → (answer ≡ status.Usage) ⊎ Hindered answer out written
+OtherWords =
+    (answer : Status) (words : List (String Global)) (old new : Outside) (out written : Output)
+    → Outcome answer words old new out written
+    → (IsCommand words → ⊥)
+    → (answer ≡ status.Usage) ⊎ Hindered answer out written
+
+-- a read that failed
+abbrev pub ReadFailed : Status → (old new : Outside) → Type 0
+ReadFailed answer old new = (answer ≡ status.ReadFault) × Rose old.faults new.faults
 
 -- the command is answered by the status that its input calls for, unless a read failed
 abbrev pub StatusOfInput : Type 0
-StatusOfInput = (texts : Bool) (answer : Status) (words : List (String Global)) (old new : InputState) (before after : ℕ → Line) (out written : OutputState) (bytes : List ℕ)
-    → Outcome answer words old new before after out written → IsReplay texts words → old.left ≡ Some bytes
-    → Due bytes answer ⊎ (Hindered answer out written ⊎ ((answer ≡ status.ReadFault) × Rose old.faults new.faults))
+StatusOfInput =
+    (texts : Bool) (answer : Status) (words : List (String Global)) (old new : Outside)
+    (out written : Output) (bytes : List ℕ)
+    → Outcome answer words old new out written
+    → IsReplay texts words
+    → old.left ≡ Some bytes
+    → Due bytes answer ⊎ (Hindered answer out written ⊎ ReadFailed answer old new)
 
 -- the status of a stream, by what stands behind its whole frames
 abbrev pub status_of_front : Result (Option Frame) FrameCause → ℕ → Status
@@ -80,24 +96,44 @@ status_of_front (Err cause) place = status.Frame reader.Input 0 place cause
 
 -- the status that a stream of frames calls for
 abbrev pub status_of_stream : List ℕ → List Frame → List ℕ → Status
-status_of_stream bytes frames rest = if nat_lt MOST_INPUT (length bytes) then status.Limit Input else status_of_front (front rest) (length (flat_map spelling frames))
+status_of_stream bytes frames rest =
+    if nat_lt MOST_INPUT (length bytes)
+    then status.Limit Input
+    else status_of_front (front rest) (length (flat_map spelling frames))
 
 -- the listing of a stream is answered by the status that the stream calls for, unless a read failed
 abbrev pub StatusOfStream : Type 0
-StatusOfStream = (answer : Status) (words : List (String Global)) (old new : InputState) (before after : ℕ → Line) (out written : OutputState) (bytes : List ℕ) (frames : List Frame) (rest : List ℕ)
-    → Outcome answer words old new before after out written → IsFrames words → old.left ≡ Some bytes → Lists bytes frames rest
-    → (answer ≡ status_of_stream bytes frames rest) ⊎ (Hindered answer out written ⊎ ((answer ≡ status.ReadFault) × Rose old.faults new.faults))
+StatusOfStream =
+    (answer : Status) (words : List (String Global)) (old new : Outside) (out written : Output)
+    (bytes : List ℕ) (frames : List Frame) (rest : List ℕ)
+    → Outcome answer words old new out written
+    → IsFrames words
+    → old.left ≡ Some bytes
+    → Lists bytes frames rest
+    → (answer ≡ status_of_stream bytes frames rest)
+    ⊎ (Hindered answer out written ⊎ ReadFailed answer old new)
 
--- A script of lines that are all run, within the limits, of which all allowed orders of messages pass at both proxies, goes through where no read and no write fails and memory is there.
+-- a script of lines that are all run, within the limits, of which all allowed orders of messages
+-- pass at both proxies, goes through where no read and no write fails and memory is there
 abbrev pub GoesThrough : Type 0
-GoesThrough = (texts : Bool) (answer : Status) (words : List (String Global)) (old new : InputState) (before after : ℕ → Line) (out written : OutputState) (bytes : List ℕ) (steps : List Step)
-    → Outcome answer words old new before after out written → IsReplay texts words → old.left ≡ Some bytes
-    → length bytes ≤ MOST_INPUT → IsScript bytes steps → AllPass steps
-    → (Rose old.faults new.faults → ⊥) → (Rose out.faults written.faults → ⊥)
+GoesThrough =
+    (texts : Bool) (answer : Status) (words : List (String Global)) (old new : Outside)
+    (out written : Output) (bytes : List ℕ) (steps : List Step)
+    → Outcome answer words old new out written
+    → IsReplay texts words
+    → old.left ≡ Some bytes
+    → length bytes ≤ MOST_INPUT
+    → IsScript bytes steps
+    → AllPass steps
+    → (Rose old.faults new.faults → ⊥)
+    → (Rose out.faults written.faults → ⊥)
     → (answer ≡ status.Done) ⊎ (answer ≡ status.Memory)
 
--- Without a line `stop`, a replay that meets no fault drains, and each peer has received all.
+-- without a line `stop`, a replay that meets no fault drains, and each peer has received all
 abbrev pub DrainsUnlessStopped : Type 0
-DrainsUnlessStopped = (steps : List Step) (pair : Pair) (end : End) (line : ℕ → Line)
-    → Ran steps pair end line → status_of pair end ≡ status.Done → before_stop steps ≡ steps
+DrainsUnlessStopped =
+    (steps : List Step) (pair : Pair) (end : End) (line : ℕ → Line)
+    → Ran steps pair end line
+    → status_of pair end ≡ status.Done
+    → before_stop steps ≡ steps
     → (end ≡ ends.Drained) × HoldsAll steps pair

@@ -1,5 +1,6 @@
 -- The words of the command line that the program knows.
-use Rattle.std.specs.Prelude.{◌≡◌, ◌⊎◌, Bool, true, false, List, [], ◌∷◌, ℕ, String, string_bytes, codes}
+use Rattle.std.specs.Prelude.{◌≡◌, ◌⊎◌, Bool, true, false, List, [], ◌∷◌, ℕ, String, string_bytes}
+use Rattle.std.specs.Prelude.{codes}
 use Rattle.std.specs.declared.alloc.Global.{Global}
 use Rattle.waypipe_run.specs.declared.words.Command.{Command}
 use Rattle.waypipe_run.specs.declared.words.Command.TheVariants.{Replay, Frames}

@@ -1,7 +1,11 @@
 //! What the program answers, before it is written.
-ghost use Rattle.std.specs.Prelude.{◌≡◌, IfOk};
+
+ghost use Rattle.std.specs.Prelude.{◌≡◌, ◌⊎◌, IfOk, OnErr};
 ghost use Rattle.replay_model.specs.Link.{NothingOpened};
-ghost use Rattle.waypipe_run.specs.Top.{Tells, TellsBytes};
+ghost use Rattle.wp_outside.specs.Lines.{Same};
+ghost use Rattle.waypipe_run.specs.Moving.{TookNoMore};
+ghost use Rattle.waypipe_run.specs.Parts.{RepliesToBytes, IsRun};
+ghost use Rattle.waypipe_run.specs.Top.{Replies, MayReplay, outside};
 ghost use Rattle.waypipe_run.specs.Words.{Asks};
 
 use crate::causes::Limit;
@@ -13,9 +17,14 @@ use crate::status::Status;
 use crate::texts::{read_failed_text, usage_text};
 use crate::words::{Command, command_of};
 use std::alloc::{AllocError, Global};
+use wl_wire::Bytes;
 use wp_outside::{LinkStore, Source};
 
 /// Does what the words ask for.
+///
+/// # Errors
+/// Only where memory runs out.
+#[tactic(auto, using(crate::proofs::MovingLemmas::took_none, crate::proofs::AnswerLemmas::on_still))]
 pub fn answer<S: Source, L: LinkStore>(
     alloc: Global,
     words: &[String],
@@ -23,10 +32,14 @@ pub fn answer<S: Source, L: LinkStore>(
     line: &mut L,
 ) -> Result<Reply, AllocError>
     requires { NothingOpened (L.line line.old) }
-    ensures { IfOk result (λ answer. Tells answer.status words.now
-        (record { left = S.left input.old; faults = S.faults input.old })
-        (record { left = S.left input.new; faults = S.faults input.new })
-        (L.line line.old) (L.line line.new) answer.text.items) }
+    ensures reply { IfOk result (λ reply. Replies reply.status words.now
+        (outside (S.left input.old) (S.faults input.old) (L.line line.old))
+        (outside (S.left input.new) (S.faults input.new) (L.line line.new)) reply.text) }
+    ensures bounded { TookNoMore (S.left input.old) (S.left input.new) }
+    ensures untouched { OnErr result (Same (L.line line.old) (L.line line.new)
+        ⊎ MayReplay words.now
+        (outside (S.left input.old) (S.faults input.old) (L.line line.old))
+        (outside (S.left input.new) (S.faults input.new) (L.line line.new))) }
 {
     match command_of(words) {
         Some(command) => answer_command(alloc, command, words, input, line),
@@ -35,6 +48,7 @@ pub fn answer<S: Source, L: LinkStore>(
 }
 
 /// Reads the input to its end, and does with it what a command asks for.
+#[tactic(auto, using(crate::proofs::AnswerLemmas::on_still))]
 fn answer_command<S: Source, L: LinkStore>(
     alloc: Global,
     command: Command,
@@ -44,10 +58,14 @@ fn answer_command<S: Source, L: LinkStore>(
 ) -> Result<Reply, AllocError>
     requires asks { Asks command words.now }
     requires nothing { NothingOpened (L.line line.old) }
-    ensures { IfOk result (λ answer. Tells answer.status words.now
-        (record { left = S.left input.old; faults = S.faults input.old })
-        (record { left = S.left input.new; faults = S.faults input.new })
-        (L.line line.old) (L.line line.new) answer.text.items) }
+    ensures reply { IfOk result (λ reply. Replies reply.status words.now
+        (outside (S.left input.old) (S.faults input.old) (L.line line.old))
+        (outside (S.left input.new) (S.faults input.new) (L.line line.new)) reply.text) }
+    ensures bounded { TookNoMore (S.left input.old) (S.left input.new) }
+    ensures untouched { OnErr result (Same (L.line line.old) (L.line line.new)
+        ⊎ MayReplay words.now
+        (outside (S.left input.old) (S.faults input.old) (L.line line.old))
+        (outside (S.left input.new) (S.faults input.new) (L.line line.new))) }
 {
     match read_all(alloc, input) {
         Ok(bytes) => answer_bytes(alloc, command, bytes, line),
@@ -58,14 +76,18 @@ fn answer_command<S: Source, L: LinkStore>(
 }
 
 /// Does with all bytes of the input what a command asks for.
+#[tactic(auto, using(crate::proofs::AnswerLemmas::on_still))]
 fn answer_bytes<L: LinkStore>(
     alloc: Global,
     command: Command,
-    bytes: Vec<u8>,
+    bytes: Bytes,
     line: &mut L,
 ) -> Result<Reply, AllocError>
     requires { NothingOpened (L.line line.old) }
-    ensures { IfOk result (λ answer. TellsBytes command answer.status bytes.items (L.line line.old) (L.line line.new) answer.text.items) }
+    ensures reply { IfOk result (λ reply. RepliesToBytes command bytes reply.status
+        (L.line line.old) (L.line line.new) reply.text) }
+    ensures untouched { OnErr result (Same (L.line line.old) (L.line line.new)
+        ⊎ IsRun command bytes) }
 {
     match command {
         Command::Replay { texts } => answer_text(alloc, texts, bytes, line),

@@ -1,4 +1,5 @@
 //! How a replay's report ends.
+
 ghost use Rattle.std.specs.Prelude.{◌≡◌, ◌++◌, IfOk};
 ghost use Rattle.waypipe_run.specs.Endings.{EndsReport, peer_of};
 ghost use Rattle.waypipe_run.specs.Outcomes.{peer_cause, frame_cause, reader_of};
@@ -12,11 +13,12 @@ use pair_replay::{PeerReport, Replayed};
 use replay_model::{End, Fault, Refusal};
 use std::alloc::{AllocError, Global};
 use transfer_frames::FrameCause;
+use wl_wire::Text;
 use wp_outside::Side;
 
 /// The status that a replay's end gives, and its last line behind the report.
-pub fn end_report(alloc: Global, report: Vec<u8>, replayed: &Replayed) -> Result<Reply, AllocError>
-    ensures { IfOk result (λ answer. EndsReport replayed.now answer.status report.items answer.text.items) }
+pub fn end_report(alloc: Global, report: Text, replayed: &Replayed) -> Result<Reply, AllocError>
+    ensures { IfOk result (λ reply. EndsReport replayed.now reply.status report reply.text) }
 {
     match replayed.end {
         End::Drained => ended(Status::Done, report, drained_text()),
@@ -43,48 +45,48 @@ fn peer_of(replayed: &Replayed, side: Side) -> &PeerReport
 /// A message of a peer that is refused.
 fn refuse_message(
     alloc: Global,
-    report: Vec<u8>,
+    report: Text,
     side: Side,
     index: u64,
     cause: Refusal,
 ) -> Result<Reply, AllocError>
-    ensures status { IfOk result (λ answer. answer.status ≡ Status.Peer side index (peer_cause cause)) }
-    ensures text { IfOk result (λ answer. answer.text.items ≡ report.items ++ peer_text side index (peer_cause cause)) }
+    ensures status { IfOk result (λ reply. reply.status
+        ≡ Status.Peer side index (peer_cause cause)) }
+    ensures text { IfOk result (λ reply. reply.text
+        ≡ report ++ peer_text side index (peer_cause cause)) }
 {
     let cause = peer_cause(cause);
-    match peer_text(alloc, side, index, cause) {
-        Ok(text) => ended(Status::Peer { side, index, cause }, report, text.as_str()),
-        Err(error) => Err(error),
-    }
+    let last = peer_text(alloc, side, index, cause)?;
+    ended(Status::Peer { side, index, cause }, report, last.as_str())
 }
 
 /// A frame that is refused, on the one connection.
 fn refuse_frame(
     alloc: Global,
-    report: Vec<u8>,
+    report: Text,
     side: Side,
     place: u64,
     cause: Refusal,
 ) -> Result<Reply, AllocError>
-    ensures status { IfOk result (λ answer. answer.status ≡ Status.Frame (reader_of side) 1 place (frame_cause cause)) }
-    ensures text { IfOk result (λ answer. answer.text.items ≡ report.items ++ frame_text (reader_of side) 1 place (frame_cause cause)) }
+    ensures status { IfOk result (λ reply. reply.status
+        ≡ Status.Frame (reader_of side) 1 place (frame_cause cause)) }
+    ensures text { IfOk result (λ reply. reply.text
+        ≡ report ++ frame_text (reader_of side) 1 place (frame_cause cause)) }
 {
     let reader = reader_of(side);
     let connection = 1;
     let cause = frame_cause(cause);
-    match frame_text(alloc, reader, connection, place, cause) {
-        Ok(text) => ended(
-            Status::Frame {
-                reader,
-                connection,
-                place,
-                cause,
-            },
-            report,
-            text.as_str(),
-        ),
-        Err(error) => Err(error),
-    }
+    let last = frame_text(alloc, reader, connection, place, cause)?;
+    ended(
+        Status::Frame {
+            reader,
+            connection,
+            place,
+            cause,
+        },
+        report,
+        last.as_str(),
+    )
 }
 
 /// A refusal as the cause for which what a peer sends is refused.

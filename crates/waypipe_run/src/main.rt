@@ -1,5 +1,5 @@
-//! A pair of Wayland proxies beside each other: the program replays a script of what an application puts on its wire, and
-//! reports what the compositor received.
+//! A pair of Wayland proxies beside each other: the program replays a script of what an application
+//! puts on its wire, and reports what the compositor received.
 #![tactic(auto)]
 
 mod answers;
@@ -46,8 +46,8 @@ fn main(rt: HostRuntime) -> ExitCode {
     ExitCode::from(status.code())
 }
 
-/// The words after the program's name, or none where memory runs out. Words of which one is no UTF-8 are no command, as
-/// no words are.
+/// The words after the program's name, or none where memory runs out. Words of which one is no
+/// UTF-8 are no command, as no words are.
 fn words_of(rt: &HostRuntime) -> Option<Vec<String>> {
     match env::args(rt) {
         Ok(mut args) => {

@@ -1,6 +1,8 @@
 //! The names by which the program prints causes.
 ghost use Rattle.std.specs.Prelude.{◌≡◌, string_bytes, IfOk};
-ghost use Rattle.waypipe_run.specs.Names.{script_name, wire_name, object_name, peer_name, limit_name, side_name, reader_name, frame_name, frame_detail};
+ghost use Rattle.waypipe_run.specs.Names.{script_name, wire_name, object_name, peer_name};
+ghost use Rattle.waypipe_run.specs.Names.{limit_name, side_name, reader_name, frame_name};
+ghost use Rattle.waypipe_run.specs.Names.{frame_detail};
 
 use crate::causes::{Limit, PeerCause};
 use crate::status::Reader;

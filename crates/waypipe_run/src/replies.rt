@@ -1,4 +1,5 @@
 //! A status and the text that is written with it.
+
 ghost use Rattle.std.specs.Prelude.{◌≡◌, ◌++◌, IfOk};
 ghost use Rattle.waypipe_run.specs.Texts.{limit_text};
 
@@ -6,46 +7,40 @@ use crate::causes::Limit;
 use crate::status::Status;
 use crate::texts::limit_text;
 use std::alloc::{AllocError, Global};
+use wl_wire::Text;
 
 /// A status, and the whole text that is written with it.
 #[derive(Drop)]
 pub struct Reply {
     pub status: Status,
-    pub text: Vec<u8>,
+    pub text: Text,
 }
 
 /// A status whose text is one line.
 pub fn alone(alloc: Global, status: Status, text: &str) -> Result<Reply, AllocError>
-    ensures status { IfOk result (λ answer. answer.status ≡ status) }
-    ensures text { IfOk result (λ answer. answer.text.items ≡ text.now) }
+    ensures status { IfOk result (λ reply. reply.status ≡ status) }
+    ensures text { IfOk result (λ reply. reply.text ≡ text.now) }
 {
-    match Vec::from_slice(alloc, text.as_bytes()) {
-        Ok(text) => Ok(Reply { status, text }),
-        Err(error) => Err(error),
-    }
+    ended(status, Text::new(alloc), text)
 }
 
 /// A limit that was met.
 pub fn limited(alloc: Global, which: Limit) -> Result<Reply, AllocError>
-    ensures status { IfOk result (λ answer. answer.status ≡ Status.Limit which) }
-    ensures text { IfOk result (λ answer. answer.text.items ≡ limit_text which) }
+    ensures status { IfOk result (λ reply. reply.status ≡ Status.Limit which) }
+    ensures text { IfOk result (λ reply. reply.text ≡ limit_text which) }
 {
-    match limit_text(alloc, which) {
-        Ok(text) => alone(alloc, Status::Limit { which }, text.as_str()),
-        Err(error) => Err(error),
-    }
+    let text = limit_text(alloc, which)?;
+    alone(alloc, Status::Limit { which }, text.as_str())
 }
 
 /// A status whose text is a report and a last line.
-pub fn ended(status: Status, mut report: Vec<u8>, last: &str) -> Result<Reply, AllocError>
-    ensures status { IfOk result (λ answer. answer.status ≡ status) }
-    ensures text { IfOk result (λ answer. answer.text.items ≡ report.items ++ last.now) }
+pub fn ended(status: Status, mut report: Text, last: &str) -> Result<Reply, AllocError>
+    ensures status { IfOk result (λ reply. reply.status ≡ status) }
+    ensures text { IfOk result (λ reply. reply.text ≡ report ++ last.now) }
 {
-    match report.extend_from_slice(last.as_bytes()) {
-        Ok(()) => Ok(Reply {
-            status,
-            text: report,
-        }),
-        Err(error) => Err(error),
-    }
+    report.append(last.as_bytes())?;
+    Ok(Reply {
+        status,
+        text: report,
+    })
 }

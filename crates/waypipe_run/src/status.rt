@@ -36,13 +36,15 @@ pub enum Status {
         line: u32,
         cause: ScriptCause,
     },
-    /// What a peer sent is refused: the side beside it, the count of messages taken before, and why.
+    /// What a peer sent is refused: the side beside it, the count of messages taken before, and
+    /// why.
     Peer {
         side: Side,
         index: u64,
         cause: PeerCause,
     },
-    /// A frame is refused: whose bytes it stands in, the connection, the count of bytes before it, and why.
+    /// A frame is refused: whose bytes it stands in, the connection, the count of bytes before it,
+    /// and why.
     Frame {
         reader: Reader,
         connection: u32,
@@ -55,8 +57,8 @@ pub enum Status {
     },
     /// The link failed.
     LinkFault,
-    /// The bytes read of a direction of a connection aren't those written: the first that differs, what was written there,
-    /// if anything was, and what was read.
+    /// The bytes read of a direction of a connection aren't those written: the first that differs,
+    /// what was written there, if anything was, and what was read.
     LinkDiffers {
         connection: u32,
         direction: Direction,

@@ -14,7 +14,8 @@ use wp_outside::{LineStore, MemorySink, MemorySource, Side};
 const USAGE: &str =
     "usage: waypipe replay [--text] [--long] or frames or trial N or session [--workers N] [--link memory or tcp] [--text] [--long]\n";
 
-/// What a run over an input answers and writes, where the sink has so many places and the calls of these numbers fail.
+/// What a run over an input answers and writes, where the sink has so many places and the calls of
+/// these numbers fail.
 fn run(
     alloc: Global,
     words: &[String],

@@ -1,6 +1,8 @@
 //! The last lines of what the program prints.
 ghost use Rattle.std.specs.Prelude.{◌≡◌, string_bytes, IfOk};
-ghost use Rattle.waypipe_run.specs.Texts.{usage_text, read_failed_text, drained_text, stopped_text, script_text, peer_text, limit_text, frame_text, rest_text};
+ghost use Rattle.waypipe_run.specs.Texts.{usage_text, read_failed_text, drained_text, stopped_text};
+ghost use Rattle.waypipe_run.specs.Texts.{script_text, peer_text, limit_text, frame_text};
+ghost use Rattle.waypipe_run.specs.Texts.{rest_text};
 
 use crate::causes::{Limit, PeerCause};
 use crate::names::{

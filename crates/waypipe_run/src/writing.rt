@@ -6,7 +6,8 @@ ghost use Rattle.waypipe_run.specs.Moving.{WroteFront};
 
 use wp_outside::{Failed, Sink};
 
-/// Writes a text in order, each byte once, over writes that take a part. Where a write fails, the rest isn't written.
+/// Writes a text in order, each byte once, over writes that take a part. Where a write fails, the
+/// rest isn't written.
 pub fn write_all<K: Sink>(output: &mut K, text: &[u8]) -> Result<(), Failed>
     ensures ok { OnOk result (K.held output.new ≡ held_with (K.held output.old) text.now) }
     ensures cause { OnErr result (Rose (K.faults output.old) (K.faults output.new)) }

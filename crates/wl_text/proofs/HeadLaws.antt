@@ -11,7 +11,6 @@ use Rattle.wl_tables.specs.declared.interface.Interface.{Interface}
 use Rattle.wl_tables.specs.declared.way.Way.{Way}
 use Rattle.wl_tables.specs.Interfaces.{interface_name, interface_of}
 use Rattle.wl_tables.specs.Messages.{form_of, carried_by, signature}
-use Rattle.wl_tables.specs.Ways.{way_of}
 use Rattle.wl_tables.specs.Messages as table
 use Rattle.wl_tables.specs.Places.{MessageRow}
 use Rattle.wl_tables.specs.Table.{messages}

@@ -7,7 +7,7 @@ use Rattle.wl_text.specs.declared.arg_reading.TextArg.{TextArg}
 use Rattle.wl_text.specs.declared.arg_reading.TextArgs.{TextArgs}
 use Rattle.wl_text.specs.declared.text_message.TextFault.{TextFault}
 use Rattle.wl_text.specs.declared.text_message.TextFault.TheVariants.{Form, Memory}
-use Rattle.wl_text.specs.Answers.{Tells}
+use Rattle.wl_text.specs.Answers.{AnswersFront}
 use Rattle.wl_text.specs.Front.{Read}
 use Rattle.wl_text.specs.ArgTexts.{comma}
 use Rattle.wl_text.specs.ArgReading.{with_handle, with_arg, and_arg, arg_behind, args_at}
@@ -51,6 +51,6 @@ module _ (slots : List Slot) (whole : Read TextArgs) (said : TextArgs) (word tex
   args_more slot one after here read = so_far ∙ rw (next-slot slots i slot here, ← read) (with_said_arg said one (args_at comma (drop (i + 1) slots) after))
 
 -- a fault that a part has is the whole's
-pub fault_tells : {X Y : Type 0} (fault : TextFault) (part : Read X) (whole : Read Y) → Tells {X = X} (Err fault) part → (None ≡ part → whole ≡ None) → Tells {X = Y} (Err fault) whole
+pub fault_tells : {X Y : Type 0} (fault : TextFault) (part : Read X) (whole : Read Y) → AnswersFront {X = X} (Err fault) part → (None ≡ part → whole ≡ None) → AnswersFront {X = Y} (Err fault) whole
 fault_tells Form part whole told next = next (sym told)
 fault_tells Memory part whole told next = tt

@@ -2,7 +2,7 @@
 --
 -- A text is made of names of the table, of decimal digits, of words that stand in it as they are, and of what is written of bytes: a
 -- byte that is not shown is written as two digits behind a backslash.
-use Rattle.std.proofs.Common.{◌≡◌, ℕ, ℤ, pos, negsuc, suc, ◌/◌, ◌%◌, ◌+◌, ◌*◌, ◌^◌, ◌<◌, ◌==◌, ◌&&◌, List, [], ◌∷◌, ◌++◌, length, drop, slice_get, Bool, true, false, codes, w32, FitsSigned, Some, refl, sym, ap, ◌∙◌, subst, arith}
+use Rattle.std.proofs.Common.{◌≡◌, ℕ, ℤ, pos, negsuc, suc, ◌/◌, ◌%◌, ◌^◌, ◌<◌, ◌==◌, ◌&&◌, List, [], ◌∷◌, ◌++◌, Bool, true, false, codes, w32, FitsSigned, refl, ap, ◌∙◌, arith}
 use Rattle.std.proofs.lemmas.Bool.Decides.{nat_tests}
 use Rattle.std.proofs.lemmas.Fmt.{decimal_is_IsNumeral}
 use Rattle.std.proofs.lemmas.List.Elements.{All-head, All-tail}
@@ -20,8 +20,8 @@ use Rattle.wl_wire.specs.ArgLaws.{FitsSlot, FitSlots}
 use Rattle.wl_wire.proofs.ArgPadding.{AreBytes}
 use Rattle.wl_text.specs.declared.enclosed.Enclosure.{Enclosure}
 use Rattle.wl_text.specs.declared.enclosed.Enclosure.TheVariants.{Quotes, Brackets}
-use Rattle.wl_text.specs.ArgTexts.{comma, object_text, new_text, handle_text, arg_text, handles_behind, args_text}
-use Rattle.wl_text.specs.Enclosed.{digit, two_digits, is_marked, is_shown, byte_text, opening, closing, item_text, enclosed_text}
+use Rattle.wl_text.specs.ArgTexts.{comma, object_text, new_text, arg_text, handles_behind, args_text}
+use Rattle.wl_text.specs.Enclosed.{digit, two_digits, is_marked, is_shown, byte_text, closing, item_text, enclosed_text}
 use Rattle.wl_text.specs.Text.{start_text, call_text}
 use Rattle.wl_tables.specs.Interfaces.{interface_name}
 use Rattle.wl_tables.specs.declared.interface.Interface.{Interface}

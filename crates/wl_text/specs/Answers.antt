@@ -7,10 +7,10 @@ use Rattle.wl_text.specs.Front.{Read}
 
 -- the answer is what stands at the front, or that nothing of the kind does; want of memory alone is
 -- free
-abbrev pub Tells : {X : Type 0} → Result (X × Bor (List ℕ)) TextFault → Read X → Type 0
-Tells (Ok it) told = told ≡ Some (it.0, it.1.now)
-Tells (Err Form) told = told ≡ None
-Tells (Err Memory) told = Unit {0}
+abbrev pub AnswersFront : {X : Type 0} → Result (X × Bor (List ℕ)) TextFault → Read X → Type 0
+AnswersFront (Ok it) told = told ≡ Some (it.0, it.1.now)
+AnswersFront (Err Form) told = told ≡ None
+AnswersFront (Err Memory) told = Unit {0}
 
 -- the same where nothing behind it is told
 abbrev pub Answers : {X : Type 0} → Result X TextFault → Option X → Type 0

@@ -1,7 +1,7 @@
 -- Messages of the Wayland protocol as text; the text is this project's own, with the names of
 -- wayland.xml and of the stable xdg-shell.
 use Rattle.std.specs.Prelude.{◌≡◌, ℕ, ◌+◌, ℤ, List, [], ◌∷◌, ◌++◌, drop, length, filter_map, codes}
-use Rattle.std.specs.Prelude.{decimal, Bool, nat_le, if◌then◌else◌, Option, Some, None}
+use Rattle.std.specs.Prelude.{decimal, nat_le, if◌then◌else◌, Option, Some, None}
 use Rattle.std.specs.Prelude.{Result, Ok, Err}
 use Rattle.std.specs.List.{slice_get}
 use Rattle.wl_tables.specs.Interfaces.{interface_name, interface_of}
@@ -12,7 +12,6 @@ use Rattle.wl_tables.specs.Table.{messages}
 use Rattle.wl_tables.specs.Ways.{is_event}
 use Rattle.wl_tables.specs.declared.interface.Interface.{Interface}
 use Rattle.wl_tables.specs.declared.way.Way.{Way}
-use Rattle.wl_tables.specs.declared.way.Way.TheVariants.{Request, Event}
 use Rattle.wl_wire.specs.declared.arguments.Arg.{Arg}
 use Rattle.wl_wire.specs.ArgFaults.{args_fault}
 use Rattle.wl_wire.specs.Building.{args_bytes, built}

@@ -1,13 +1,15 @@
 //! The text of arguments.
 
-ghost use Rattle.std.specs.Prelude.{◌≡◌, ◌++◌, [], OnOk};
+ghost use Rattle.std.specs.Prelude.{◌≡◌, ◌++◌, [], map, OnOk};
+ghost use Rattle.wl_wire.specs.ArgSights.{seen_arg};
+ghost use Rattle.wl_wire.specs.declared.arguments.Arg.TheVariants as arg_kind;
 ghost use Rattle.wl_text.specs.ArgTexts.{object_text, new_text, handle_text, arg_text};
 ghost use Rattle.wl_text.specs.ArgTexts.{handles_behind, args_text};
 
 use crate::decimals::{put_number, put_signed};
 use crate::enclosed::{Enclosure, put_enclosed};
 use std::alloc::AllocError;
-use wl_wire::{Arg, Text};
+use wl_wire::{ArgView, Text};
 
 /// Adds the id of an object, or the sign of null.
 fn put_object(out: &mut Text, id: u32) -> Result<(), AllocError>
@@ -31,7 +33,7 @@ fn put_new(out: &mut Text, id: u32) -> Result<(), AllocError>
 
 /// Adds a number in 1/256.
 fn put_fixed(out: &mut Text, value: i32) -> Result<(), AllocError>
-    ensures { OnOk result (out.new ≡ out.old ++ arg_text (Arg.Fixed value) []) }
+    ensures { OnOk result (out.new ≡ out.old ++ arg_text (arg_kind.Fixed value) []) }
 {
     put_signed(out, value)?;
     out.append(b"/256")
@@ -39,7 +41,8 @@ fn put_fixed(out: &mut Text, value: i32) -> Result<(), AllocError>
 
 /// Adds what `wl_registry.bind` names.
 fn put_bind(out: &mut Text, interface: &[u8], version: u32, id: u32) -> Result<(), AllocError>
-    ensures { OnOk result (out.new ≡ out.old ++ arg_text (Arg.Bind interface.now version id) []) }
+    ensures { OnOk result (out.new ≡ out.old ++
+        arg_text (arg_kind.Bind interface.now version id) []) }
 {
     put_enclosed(out, Enclosure::Quotes, interface)?;
     out.push(b' ')?;
@@ -60,40 +63,40 @@ fn put_handle(out: &mut Text, handles: &[i32]) -> Result<(), AllocError>
 }
 
 /// Adds an argument, where these handles are left.
-fn put_arg(out: &mut Text, arg: &Arg, handles: &[i32]) -> Result<(), AllocError>
-    ensures { OnOk result (out.new ≡ out.old ++ arg_text arg.now handles.now) }
+fn put_arg(out: &mut Text, arg: &ArgView, handles: &[i32]) -> Result<(), AllocError>
+    ensures { OnOk result (out.new ≡ out.old ++ arg_text (seen_arg arg.now) handles.now) }
 {
     match arg {
-        Arg::Int(value) => put_signed(out, *value),
-        Arg::Uint(value) => put_number(out, *value),
-        Arg::Fixed(value) => put_fixed(out, *value),
-        Arg::Str(text) => put_enclosed(out, Enclosure::Quotes, text.as_slice()),
-        Arg::NullStr => out.append(b"null"),
-        Arg::Object(id) => put_object(out, *id),
-        Arg::NewId(id) => put_new(out, *id),
-        Arg::Bind {
+        ArgView::Int(value) => put_signed(out, *value),
+        ArgView::Uint(value) => put_number(out, *value),
+        ArgView::Fixed(value) => put_fixed(out, *value),
+        ArgView::Str(text) => put_enclosed(out, Enclosure::Quotes, text),
+        ArgView::NullStr => out.append(b"null"),
+        ArgView::Object(id) => put_object(out, *id),
+        ArgView::NewId(id) => put_new(out, *id),
+        ArgView::Bind {
             interface,
             version,
             id,
-        } => put_bind(out, interface.as_slice(), *version, *id),
-        Arg::Array(content) => put_enclosed(out, Enclosure::Brackets, content.as_slice()),
-        Arg::Handle => put_handle(out, handles),
+        } => put_bind(out, interface, *version, *id),
+        ArgView::Array(content) => put_enclosed(out, Enclosure::Brackets, content),
+        ArgView::Handle => put_handle(out, handles),
     }
 }
 
 /// The handles that are left behind an argument.
-fn handles_behind<'a>(arg: &Arg, handles: &'a [i32]) -> &'a [i32]
-    ensures { result.now ≡ handles_behind arg.now handles.now }
+fn handles_behind<'a>(arg: &ArgView, handles: &'a [i32]) -> &'a [i32]
+    ensures { result.now ≡ handles_behind (seen_arg arg.now) handles.now }
 {
     match (arg, handles) {
-        (Arg::Handle, [_, rest @ ..]) => rest,
+        (ArgView::Handle, [_, rest @ ..]) => rest,
         _ => handles,
     }
 }
 
 /// Adds all arguments, with a comma between two.
-pub(crate) fn put_args(out: &mut Text, args: &[Arg], handles: &[i32]) -> Result<(), AllocError>
-    ensures { OnOk result (out.new ≡ out.old ++ args_text [] args.now handles.now) }
+pub(crate) fn put_args(out: &mut Text, args: &[ArgView], handles: &[i32]) -> Result<(), AllocError>
+    ensures { OnOk result (out.new ≡ out.old ++ args_text [] (map seen_arg args.now) handles.now) }
 {
     let mut left = handles;
     let mut word: &[u8] = b"";

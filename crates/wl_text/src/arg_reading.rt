@@ -1,7 +1,7 @@
 //! Arguments of a text, by their places.
 
 ghost use Rattle.std.specs.Prelude.{◌≡◌, codes, [], false, None, option_map, OnOk};
-ghost use Rattle.wl_text.specs.Answers.{Tells};
+ghost use Rattle.wl_text.specs.Answers.{AnswersFront};
 ghost use Rattle.wl_text.specs.Front.{read_view, behind};
 ghost use Rattle.wl_text.specs.ArgReading.{plain, null_at, int_at, uint_at, fixed_at, quoted_at};
 ghost use Rattle.wl_text.specs.ArgReading.{string_from, object_from, new_id_at, new_at, bound_at};
@@ -74,7 +74,7 @@ fn fixed_at(text: &[u8]) -> Option<(TextArg, &[u8])>
 /// A string that isn't null.
 #[tactic(auto, unfolding(crate::specs::ArgReading::quoted_at))]
 fn quoted_at(alloc: Global, text: &[u8]) -> Result<(TextArg, &[u8]), TextFault>
-    ensures { Tells result (quoted_at text.now) }
+    ensures { AnswersFront result (quoted_at text.now) }
 {
     let (bytes, rest) = enclosed_at(alloc, Enclosure::Quotes, text)?;
     Ok((plain(Arg::Str(bytes)), rest))
@@ -82,7 +82,7 @@ fn quoted_at(alloc: Global, text: &[u8]) -> Result<(TextArg, &[u8]), TextFault>
 
 /// A string.
 fn string_at(alloc: Global, null: bool, text: &[u8]) -> Result<(TextArg, &[u8]), TextFault>
-    ensures { Tells result (string_from (behind (codes "null") text.now) null text.now) }
+    ensures { AnswersFront result (string_from (behind (codes "null") text.now) null text.now) }
 {
     match behind(b"null", text) {
         Some(rest) => given(null_at(null, Arg::NullStr, rest)),
@@ -146,7 +146,7 @@ fn bound_at(text: &[u8]) -> Option<(u32, u32, &[u8])>
 /// What `wl_registry.bind` names.
 #[tactic(auto, unfolding(crate::specs::ArgReading::bind_at))]
 fn bind_at(alloc: Global, text: &[u8]) -> Result<(TextArg, &[u8]), TextFault>
-    ensures { Tells result (bind_at text.now) }
+    ensures { AnswersFront result (bind_at text.now) }
 {
     let (interface, rest) = enclosed_at(alloc, Enclosure::Quotes, text)?;
     match bound_at(rest) {
@@ -165,7 +165,7 @@ fn bind_at(alloc: Global, text: &[u8]) -> Result<(TextArg, &[u8]), TextFault>
 /// An array.
 #[tactic(auto, unfolding(crate::specs::ArgReading::array_at))]
 fn array_at(alloc: Global, text: &[u8]) -> Result<(TextArg, &[u8]), TextFault>
-    ensures { Tells result (array_at text.now) }
+    ensures { AnswersFront result (array_at text.now) }
 {
     let (bytes, rest) = enclosed_at(alloc, Enclosure::Brackets, text)?;
     Ok((plain(Arg::Array(bytes)), rest))
@@ -187,7 +187,7 @@ fn handle_at(text: &[u8]) -> Option<(TextArg, &[u8])>
 
 /// What was read without memory, as an answer.
 fn given(read: Option<(TextArg, &[u8])>) -> Result<(TextArg, &[u8]), TextFault>
-    ensures { Tells result (read_view read.entry) }
+    ensures { AnswersFront result (read_view read.entry) }
 {
     match read {
         Some(found) => Ok(found),
@@ -202,7 +202,7 @@ fn arg_at(
     null: bool,
     text: &[u8],
 ) -> Result<(TextArg, &[u8]), TextFault>
-    ensures { Tells result (arg_at kind null text.now) }
+    ensures { AnswersFront result (arg_at kind null text.now) }
 {
     match kind {
         ArgKind::Int => given(int_at(text)),
@@ -225,7 +225,7 @@ fn arg_behind<'a>(
     slot: Slot,
     text: &'a [u8],
 ) -> Result<(TextArg, &'a [u8]), TextFault>
-    ensures { Tells result (arg_behind word.now slot text.now) }
+    ensures { AnswersFront result (arg_behind word.now slot text.now) }
 {
     match behind(word, text) {
         Some(rest) => arg_at(alloc, slot.kind, slot.null, rest),
@@ -262,7 +262,7 @@ pub(crate) fn args_at<'a>(
     signature: &Signature,
     text: &'a [u8],
 ) -> Result<(TextArgs, &'a [u8]), TextFault>
-    ensures { Tells result (args_at [] signature.now.slots text.now) }
+    ensures { AnswersFront result (args_at [] signature.now.slots text.now) }
 {
     let mut said = TextArgs::new(alloc);
     let mut rest = text;

@@ -2,7 +2,7 @@
 
 ghost use Rattle.std.specs.Prelude.{◌≡◌, ◌+◌, ◌++◌, ◌<◌, ◌∷◌, [], OnOk};
 ghost use Rattle.std.specs.List.{flat_map};
-ghost use Rattle.wl_text.specs.Answers.{Tells};
+ghost use Rattle.wl_text.specs.Answers.{AnswersFront};
 ghost use Rattle.wl_text.specs.Front.{read_view};
 ghost use Rattle.wl_text.specs.Enclosed.{digit, digit_number, two_digits, two_digits_at, is_marked};
 ghost use Rattle.wl_text.specs.Enclosed.{is_shown, byte_text, hidden, escape_at, byte_at, opening};
@@ -205,7 +205,7 @@ pub(crate) fn put_enclosed(out: &mut Text, kind: Enclosure, bytes: &[u8]) -> Res
 
 /// The bytes up to the closing one.
 fn items_at(alloc: Global, kind: Enclosure, text: &[u8]) -> Result<(Bytes, &[u8]), TextFault>
-    ensures { Tells result (items_at kind text.now) }
+    ensures { AnswersFront result (items_at kind text.now) }
 {
     let mut bytes = Bytes::new(alloc);
     let mut rest = text;
@@ -232,7 +232,7 @@ pub(crate) fn enclosed_at(
     kind: Enclosure,
     text: &[u8],
 ) -> Result<(Bytes, &[u8]), TextFault>
-    ensures { Tells result (enclosed_at kind text.now) }
+    ensures { AnswersFront result (enclosed_at kind text.now) }
 {
     match behind(&[kind.opening()], text) {
         Some(rest) => items_at(alloc, kind, rest),

@@ -13,7 +13,7 @@ mod reading;
 mod text_message;
 
 pub use laws::{line_is_one_message, printed_is_read, read_is_text, text_is_visible};
-pub use printing::print_message;
+pub use printing::{append_message, print_message};
 pub use reading::read_message;
 pub use text_message::{TextFault, TextMessage};
 

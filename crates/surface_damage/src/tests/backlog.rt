@@ -1,5 +1,5 @@
-//! What earlier commits leave due: the backlog, a buffer made anew, another geometry, a commit without
-//! a buffer, other formats.
+//! What earlier commits leave due: the backlog, a buffer made anew, another geometry, a commit
+//! without a buffer, other formats.
 
 use crate::tests::rows::returning_buffer;
 use crate::tests::scene::{Scene, expect_runs, image, rect, run};

@@ -96,8 +96,8 @@ fn scattered_rectangles(rt: HostRuntime) {
     }
 }
 
-// The second commit of an image of 40 by 15 pixels in rows of 192 bytes, from byte 40 on, of which so
-// many rectangles are damaged.
+// The second commit of an image of 40 by 15 pixels in rows of 192 bytes, from byte 40 on, of which
+// so many rectangles are damaged.
 fn both_agree(alloc: Global, count: usize) -> Result<bool, AllocError> {
     let buffer = image(40, 40, 15, 192);
     let mut scene = Scene::new(alloc)?;

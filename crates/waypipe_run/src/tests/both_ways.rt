@@ -129,7 +129,8 @@ fn longest_title(rt: HostRuntime) -> Result<(), Fail> {
     Ok(())
 }
 
-/// Lines of the language that are not run yet, and lines that are none, in scripts that are fine else.
+/// Lines of the language that are not run yet, and lines that are none, in scripts that are fine
+/// else.
 #[test]
 fn refused_lines(rt: HostRuntime) -> Result<(), Fail> {
     let table = [
@@ -258,8 +259,8 @@ fn far_peer(rt: HostRuntime) -> Result<(), Fail> {
     Ok(())
 }
 
-/// The id is deleted on the far side while a request to its object is on its way: the far proxy refuses the frame, and
-/// what it read before stays.
+/// The id is deleted on the far side while a request to its object is on its way: the far proxy
+/// refuses the frame, and what it read before stays.
 #[test]
 fn crossing_messages(rt: HostRuntime) -> Result<(), Fail> {
     let script =
@@ -279,7 +280,8 @@ fn crossing_messages(rt: HostRuntime) -> Result<(), Fail> {
     Ok(())
 }
 
-/// The compositor deletes an id before it heard of it, so the near proxy forgets an object that the far one knows.
+/// The compositor deletes an id before it heard of it, so the near proxy forgets an object that the
+/// far one knows.
 #[test]
 fn near_reader(rt: HostRuntime) -> Result<(), Fail> {
     let script =
@@ -293,8 +295,8 @@ fn near_reader(rt: HostRuntime) -> Result<(), Fail> {
     Ok(())
 }
 
-/// In the same way an id comes to stand for two objects: the event is one of a seat for the far proxy, and one that
-/// carries a handle for the near one.
+/// In the same way an id comes to stand for two objects: the event is one of a seat for the far
+/// proxy, and one that carries a handle for the near one.
 #[test]
 fn handle_by_one_table_alone(rt: HostRuntime) -> Result<(), Fail> {
     let script =

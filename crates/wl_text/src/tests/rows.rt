@@ -1,8 +1,9 @@
 //! Texts with the bytes of their messages and the numbers of their handles.
 
-use super::{DOWN, UP, again};
+use super::{DOWN, UP, again, behind};
 use std::test::Fail;
 use wl_tables::Way;
+use wl_wire::Text;
 
 struct Row(Way, &'static str, &'static [u8], &'static [i32]);
 
@@ -160,5 +161,17 @@ fn rows_both_ways(rt: HostRuntime) -> Result<(), Fail> {
             Err(_) => assert!(rt; false, "{line}"),
         }
     }
+    Ok(())
+}
+
+#[test]
+fn one_text_behind_another(rt: HostRuntime) -> Result<(), Fail> {
+    let mut text = Text::new(rt.alloc());
+    let first = behind(&mut text, rt.alloc(), b"wl_surface@3.commit()", UP);
+    assert!(rt; first.is_ok());
+    let second = behind(&mut text, rt.alloc(), b"wl_surface@5.enter(@3)", DOWN);
+    assert!(rt; second.is_ok());
+    let both: &[u8] = b"wl_surface@3.commit()wl_surface@5.enter(@3)";
+    assert_eq!(rt; text.as_slice(), both);
     Ok(())
 }

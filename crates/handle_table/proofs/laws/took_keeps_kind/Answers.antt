@@ -1,5 +1,5 @@
 use Rattle.std.proofs.lemmas.Cmp.{int_cmp_total}
-use Rattle.handle_table.proofs.Kept.{lookup-insert_entry}
+use Rattle.plain_lists.proofs.EntryLemmas.{lookup-insert_entry}
 use Rattle.handle_table.proofs.laws.took_keeps_kind.Goals as goal
 
 pub returns : goal.returns

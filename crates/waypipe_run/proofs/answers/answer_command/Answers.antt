@@ -1,8 +1,14 @@
-use Rattle.waypipe_run.proofs.AnswerLemmas.{answer_tells}
+use Rattle.waypipe_run.proofs.AnswerLemmas.{answered, on_command}
 use Rattle.waypipe_run.proofs.answers.answer_command.Goals as goal
 
-pub returns-in-Ok : goal.returns-in-Ok
-returns-in-Ok g c =
+pub returns-in-Ok-clause-reply : goal.returns-in-Ok-clause-reply
+returns-in-Ok-clause-reply g c =
     let read = c.in-Ok.ensures.answer in
-    answer_tells c.answer_bytes.result c.args.command c.args.words.now _ _ _ _ c.in-Ok.bytes.items c.requires.asks
-    (record { taken = read.0; nothing_left = read.1; no_fault = read.2; bounded = read.3 }) c.answer_bytes.ensures
+    answered c.answer_bytes.result c.args.command c.args.words.now _ _ c.in-Ok.bytes c.requires.asks
+    (record { taken = read.0; nothing_left = read.1; no_fault = read.2; bounded = read.3 }) c.answer_bytes.ensures.reply
+
+pub returns-in-Ok-clause-untouched : goal.returns-in-Ok-clause-untouched
+returns-in-Ok-clause-untouched g c =
+    let read = c.in-Ok.ensures.answer in
+    on_command c.answer_bytes.result c.args.command c.args.words.now _ _ c.in-Ok.bytes c.requires.asks
+    (record { taken = read.0; nothing_left = read.1; no_fault = read.2; bounded = read.3 }) c.answer_bytes.ensures.untouched

@@ -1,11 +1,12 @@
--- The rids that are kept, after one more was put among them: what a look-up finds, and that they still rise.
-use Rattle.std.proofs.Common.{◌≡◌, Bool, true, false, cond, List, [], ◌∷◌, Some, refl, sym, ◌∙◌, ap}
+-- The entries of an ordered map and the keys of an ordered set, behind one that was put among them: what a look-up finds, and that the keys still rise.
+use Rattle.std.proofs.Common.{◌≡◌, Bool, true, false, cond, ◌||◌, List, [], ◌∷◌, Some, refl, sym, ◌∙◌, ap}
 use Rattle.std.specs.Cmp.{IsTotalOrder}
 use Rattle.std.proofs.Common.{Ordering, Less, Equal, Greater}
 use Rattle.std.specs.Ordering.{ordering_reverse, is_eq, match_ordering, eq_by_cmp}
-use Rattle.std.specs.List.{AllByRecursion}
+use Rattle.std.specs.List.{AllByRecursion, list_any}
 use Rattle.std.specs.List.Sorted.{IsStrictlySortedBy}
 use Rattle.std.specs.BTreeMap.{insert_entry}
+use Rattle.std.specs.BTreeSet.{insert_key}
 use Rattle.std.specs.Map.{lookup, keys_of}
 use Rattle.std.proofs.lemmas.Cmp.{eq_by_cmp_equiv}
 use Rattle.std.proofs.lemmas.List.Elements.{All-from_recursion, recursion_from_All}
@@ -30,6 +31,16 @@ all_below : {K : Type 0} {R : K → K → Ordering} (o : IsTotalOrder R) (ks : L
     → R k x ≡ Less → AllByRecursion (λ y. R x y ≡ Less) ks → AllByRecursion (λ y. R k y ≡ Less) ks
 all_below o [] k x below all = tt
 all_below o (y ∷ ks) k x below all = (o.trans k x y below all.0, all_below o ks k x below all.1)
+
+-- the same test twice, and two tests in another order
+once : (a b : Bool) → (a || b) ≡ (a || (a || b))
+once true b = refl
+once false b = refl
+
+swapped : (a b c : Bool) → (a || (b || c)) ≡ (b || (a || c))
+swapped true true c = refl
+swapped true false c = refl
+swapped false b c = refl
 
 module _ {K X : Type 0} {R : K → K → Ordering} (o : IsTotalOrder R) where
   -- a look-up after an entry was put in its place
@@ -70,3 +81,25 @@ module _ {K X : Type 0} {R : K → K → Ordering} (o : IsTotalOrder R) where
             (o.antisymm e.0 k ∙ ap ordering_reverse is)),
         rest,
       )
+
+module _ {K : Type 0} {R : K → K → Ordering} (o : IsTotalOrder R) where
+  -- whether a key is there after one was put in its place
+  pub list_any-insert_key : (ks : List K) (k q : K)
+      → list_any (eq_by_cmp R q) (insert_key R ks k) ≡ (eq_by_cmp R q k || list_any (eq_by_cmp R q) ks)
+  list_any-insert_key [] k q = refl
+  list_any-insert_key (x ∷ xs) k q = by (list_any-insert_key xs k q) (R k x) refl
+    where
+      by : list_any (eq_by_cmp R q) (insert_key R xs k) ≡ (eq_by_cmp R q k || list_any (eq_by_cmp R q) xs)
+          → (c : Ordering) → R k x ≡ c
+          → list_any (eq_by_cmp R q) (match_ordering c (k ∷ x ∷ xs) (x ∷ xs) (x ∷ insert_key R xs k))
+          ≡ (eq_by_cmp R q k || list_any (eq_by_cmp R q) (x ∷ xs))
+      by rest Less is = refl
+      by rest Equal is =
+          let same : eq_by_cmp R q k ≡ eq_by_cmp R q x =
+          (eq_by_cmp_equiv o).symm q k ∙ (eq_by_cmp_equiv o).congr k x q (ap is_eq is) ∙ (eq_by_cmp_equiv o).symm x q
+          in
+          once (eq_by_cmp R q x) (list_any (eq_by_cmp R q) xs)
+          ∙ ap (λ (b : Bool). b || list_any (eq_by_cmp R q) (x ∷ xs)) (sym same)
+      by rest Greater is =
+          ap (λ (b : Bool). eq_by_cmp R q x || b) rest
+          ∙ swapped (eq_by_cmp R q x) (eq_by_cmp R q k) (list_any (eq_by_cmp R q) xs)

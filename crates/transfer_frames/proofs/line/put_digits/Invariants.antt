@@ -1,6 +1,6 @@
 use Rattle.std.proofs.Common.{◌≡◌, ◌*◌, ◌++◌, length}
 use Rattle.hex.specs.Hex.{encode_lower}
-use Rattle.transfer_frames.proofs.line.append_hex.Given as goal
+use Rattle.transfer_frames.proofs.line.put_digits.Given as goal
 
 abbrev pub invariant-pieces : goal.invariant-pieces
 invariant-pieces l =

@@ -1,6 +1,6 @@
 use Rattle.std.proofs.Common.{◌*◌, length, drop, sym, ◌∙◌, arith, length-append, length-drop, length-take}
 use Rattle.transfer_frames.proofs.LineLemmas.{piece_written, all_written}
-use Rattle.transfer_frames.proofs.line.append_hex.Goals as goal
+use Rattle.transfer_frames.proofs.line.put_digits.Goals as goal
 
 pub pieces-preserved : goal.pieces-preserved
 pieces-preserved c = (

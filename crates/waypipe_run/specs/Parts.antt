@@ -1,0 +1,41 @@
+-- What the parts of the program's call owe one another. This project's own.
+use Rattle.std.specs.Prelude.{◌≡◌, ℕ, Bool, List, Option, Some, None}
+use Rattle.script_lang.specs.declared.causes.ScriptCause.TheVariants.{NotBuilt}
+use Rattle.script_lang.specs.declared.steps.Step.{Step}
+use Rattle.wp_outside.specs.Lines.{Line, Same}
+use Rattle.waypipe_run.specs.Built.{first_unbuilt}
+use Rattle.waypipe_run.specs.Texts.{script_text}
+use Rattle.waypipe_run.specs.Top.{IsScript, Reported, RepliesToText, RepliesToStream}
+use Rattle.waypipe_run.specs.declared.status.Status.{Status}
+use Rattle.waypipe_run.specs.declared.status.Status.TheVariants as status
+use Rattle.waypipe_run.specs.declared.words.Command.{Command}
+use Rattle.waypipe_run.specs.declared.words.Command.TheVariants.{Replay, Frames}
+
+-- a line for which nothing is replayed
+pub record IsRefused
+    (line : ℕ) (answer : Status) (before after : ℕ → Line) (text : List ℕ) : Type 0 where
+  pub answered : answer ≡ status.Script line NotBuilt
+  pub untouched : Same before after
+  pub printed : text ≡ script_text line NotBuilt
+
+-- what a script is answered with: the first line that is not run, or its replay
+abbrev pub RepliesByBuilt : Option ℕ → Bool → List Step → Status
+    → (before after : ℕ → Line) → List ℕ → Type 0
+RepliesByBuilt (Some line) texts steps answer before after text =
+    IsRefused line answer before after text
+RepliesByBuilt None texts steps answer before after text = Reported texts steps answer after text
+
+abbrev pub RepliesToScript : Bool → List Step → Status → (ℕ → Line) → (ℕ → Line) → List ℕ → Type 0
+RepliesToScript texts steps = RepliesByBuilt (first_unbuilt steps) texts steps
+
+-- what the bytes of the input are answered with; nothing goes over the link for a stream of frames
+abbrev pub RepliesToBytes : Command → List ℕ → Status → (ℕ → Line) → (ℕ → Line) → List ℕ → Type 0
+RepliesToBytes (Replay texts) bytes answer before after text =
+    RepliesToText texts answer bytes before after text
+RepliesToBytes Frames bytes answer before after text =
+    Same before after × RepliesToStream answer bytes text
+
+-- the bytes are a script of which all lines are run
+abbrev pub IsRun : Command → List ℕ → Type 0
+IsRun (Replay texts) bytes = (steps : List Step) × IsScript bytes steps
+IsRun Frames bytes = ⊥
