@@ -1,0 +1,5 @@
+pub mod Sizes
+pub mod Mirrors
+pub mod Answers
+pub mod Meaning
+pub mod Laws

@@ -1,0 +1,3 @@
+mod RidLemmas
+mod WriterLemmas
+mod ReaderLemmas
