@@ -1,0 +1,15 @@
+pub mod Replacing
+pub mod Copying
+pub mod Filling
+pub mod Growing
+pub mod Telling
+pub mod Mirroring
+pub mod Fronts
+pub mod Mirrors
+pub mod Slices
+pub mod Places
+pub mod Words
+pub mod Stood
+pub mod Messages
+pub mod RowProofs
+pub mod StoryRowProof
