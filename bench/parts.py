@@ -1,7 +1,8 @@
 #!/usr/bin/env python3
 """Measures single parts of the proxies with the small proved program part_speed: commits of a surface with ten
-rectangles of damage each, one commit with thousands that lie about in no order, and loads of live words beside plain
-copies of as many words. It is no part of the gate."""
+rectangles of damage each, one commit with thousands that lie about in no order, tables of the other side's handles, in
+order and picked for their hash, loads, writes and copies of live words and fills of a mirror beside plain copies of as many words,
+pieces that go through a pipe, frames that a ring keeps and frames that counts judge. It is no part of the gate."""
 import os
 import subprocess
 
@@ -18,6 +19,12 @@ def seconds(folder, *job):
     return figures.measure([os.path.join(CRATE, "out/part_speed")], path)[0]
 
 
+def table_seconds(folder, count, bits, rounds=20):
+    """The time of one table of so many rids, whose hashes have so many zeros at their end."""
+    chosen, taken = (seconds(folder, "rids", count, bits, times) for times in (0, rounds))
+    return (taken - chosen) / rounds
+
+
 def main():
     subprocess.run(["rt", "run"], cwd=CRATE, stdin=subprocess.DEVNULL, capture_output=True, check=False)
     with figures.folder() as folder:
@@ -29,10 +36,48 @@ def main():
         for across, down in ((64, 64), (2, 2160), (2, 1080), (600, 400), (3840, 2160)):
             once, twice = (seconds(folder, "scatter", 3840, 2160, across, down, count) for count in (2000, 4000))
             print(f"2000 rectangles of {across:4} by {down:4} pixels: {once * 1e3:5.1f} ms, twice as many {twice / once:.2f} times the time")
+        for count in (73_728, 147_456):
+            plain, picked = (table_seconds(folder, count, bits) for bits in (0, 10))
+            print(f"{count} rids: {plain * 1e3:5.1f} ms in order, {picked * 1e3:5.1f} ms where they are picked for their hash")
         for words in (1024, 65_536, 1_048_576):
             rounds = 1_000_000_000 // words
             loads, copies = seconds(folder, "loads", words, rounds), seconds(folder, "copies", words, rounds)
             print(f"{words:8} words: {words * rounds / loads / 1e6:6.0f} million loads per second, {loads / copies:.1f} times a plain copy's time")
+            rounds = 100_000_000 // words
+            writes = seconds(folder, "writes", words, rounds)
+            print(f"{words:8} words: {words * rounds / writes / 1e6:6.0f} million writes per second")
+        copies_by_jobs(folder)
+        files_and_pipes(folder)
+        frames_of_the_link(folder)
+
+
+def copies_by_jobs(folder):
+    """Words that are copied by jobs, each behind a write and a note, and a plain loop of atomic loads over as many."""
+    for words in (512, 65_536, 131_072):
+        rounds = 500_000_000 // words
+        jobs, loads = seconds(folder, "one", words, rounds), seconds(folder, "atomics", words, rounds)
+        print(f"{words:8} words: {words * rounds / jobs / 1e6:6.0f} million words copied per second, {loads / jobs:.2f} of a plain loop's speed")
+
+
+def files_and_pipes(folder):
+    """Fills of a whole mirror, and pieces from the peer that writes them to the one that reads them."""
+    for size in (4096, 1_048_512):
+        rounds = 5_000_000_000 // size
+        fills, copies = seconds(folder, "fills", size, rounds), seconds(folder, "copies", size // 8, rounds)
+        print(f"{size:8} bytes: {size * rounds / fills / 1e9:6.1f} GB filled per second, {fills / copies:.2f} times a plain copy's time")
+    for size in (64, 4096, 65_536):
+        rounds = 2_000_000_000 // (size + 1000)
+        print(f"{size:8} bytes: {rounds / seconds(folder, 'pieces', size, rounds) / 1e6:8.3f} million pieces through a pipe per second")
+
+
+def frames_of_the_link(folder):
+    """Frames that are copied, kept, read in the ring and acknowledged, and frames that are judged, each with an ACK
+    behind it."""
+    for size, times in ((80, 10_000_000), (1_048_576, 10_000)):
+        kept = seconds(folder, "kept", size, times)
+        print(f"{size:8} bytes: {times / kept:10.0f} frames kept per second, {size * times / kept / 1e9:5.2f} GB per second")
+    frames, times = 10_000, 10_000
+    print(f"{frames * times / seconds(folder, 'judged', frames, times) / 1e6:.0f} million frames judged per second")
 
 
 main()

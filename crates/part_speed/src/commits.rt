@@ -33,8 +33,8 @@ pub struct Scatter {
     pub count: u32,
 }
 
-/// Commits a surface so many times, each time with ten rectangles of 64 by 64 pixels of damage, and answers how many
-/// runs of blocks came out in all; 0 where the image is too large.
+/// Commits a surface so many times, each time with ten rectangles of 64 by 64 pixels of damage, and
+/// answers how many runs of blocks came out in all; 0 where the image is too large.
 pub fn runs_of_commits(alloc: Global, image: Sides, times: u32) -> Result<u64, AllocError> {
     match standing(image) {
         Some(standing) => runs_of_standing(alloc, image, &standing, times),
@@ -70,8 +70,8 @@ fn runs_of_standing(
     Ok(runs)
 }
 
-/// Commits a surface twice, the second time with the damage, and answers how many runs of blocks that makes; 0 where
-/// the image is too large.
+/// Commits a surface twice, the second time with the damage, and answers how many runs of blocks
+/// that makes; 0 where the image is too large.
 pub fn runs_of_scatter(alloc: Global, scatter: Scatter) -> Result<u64, AllocError> {
     match standing(scatter.image) {
         Some(standing) => runs_of_damage(alloc, scatter, &standing),

@@ -3,7 +3,12 @@
 ghost use Rattle.std.specs.Prelude.{◌≤◌, ◌↔◌, IsTrue};
 
 use crate::commits::{Scatter, Sides, runs_of_commits, runs_of_scatter};
-use crate::words::{sum_of_copies, sum_of_loads};
+use crate::copies::{sum_by_one, sum_of_atomics};
+use crate::link_frames::{bytes_in_ring, frames_accepted};
+use crate::mirrors::sum_of_fills;
+use crate::pipes::bytes_through;
+use crate::rids::{Choice, count_of_rids};
+use crate::words::{count_of_writes, sum_of_copies, sum_of_loads};
 use std::alloc::{AllocError, Global};
 
 // The greatest count of words of a pool.
@@ -16,10 +21,33 @@ pub enum Job {
     Commits { image: Sides, times: u32 },
     /// One commit with many rectangles of damage.
     Scatter(Scatter),
-    /// Loads of all words of a pool.
-    Loads { words: u32, times: u32 },
+    /// Tables of the other side's handles.
+    Rids { choice: Choice, times: u32 },
+    /// Work on all words of a pool.
+    Words { way: Way, words: u32, times: u32 },
+    /// Fills of a mirror of so many bytes.
+    Fills { bytes: u32, times: u32 },
+    /// Pieces of so many bytes through a pipe.
+    Pieces { bytes: u32, times: u32 },
+    /// Frames of so many bytes in a ring.
+    Kept { bytes: u32, times: u32 },
+    /// Frames that are judged, so many on each of so many connections.
+    Judged { frames: u32, times: u32 },
+}
+
+/// What is done with words.
+#[derive(Clone, Copy, Debug, PartialEq, Eq)]
+pub enum Way {
+    /// Loads of a pool's words.
+    Loads,
+    /// Writes of a pool's words.
+    Writes,
     /// Plain copies of as many words.
-    Copies { words: u32, times: u32 },
+    Copies,
+    /// Loads of as many atomic words by a plain loop.
+    Atomics,
+    /// Copies of a pool's words by jobs, on one thread.
+    One,
 }
 
 impl Job {
@@ -46,37 +74,80 @@ impl Job {
                 },
                 count: number(fields.next()?)?,
             })),
-            "loads" => Some(Job::Loads {
-                words: first,
-                times: second,
+            "rids" => Some(Job::Rids {
+                choice: Choice {
+                    count: first,
+                    bits: second,
+                },
+                times: number(fields.next()?)?,
             }),
-            "copies" => Some(Job::Copies {
-                words: first,
-                times: second,
-            }),
-            _ => None,
+            _ => Job::repeated(name, first, second),
         }
     }
 
-    /// Does the work, and answers a sum over what came out; 0 where a size is none that the part takes.
+    // The job of this name, on so much each time.
+    fn repeated(name: &str, size: u32, times: u32) -> Option<Job> {
+        match name {
+            "fills" => Some(Job::Fills { bytes: size, times }),
+            "pieces" => Some(Job::Pieces { bytes: size, times }),
+            "kept" => Some(Job::Kept { bytes: size, times }),
+            "judged" => Some(Job::Judged {
+                frames: size,
+                times,
+            }),
+            _ => Some(Job::Words {
+                way: Way::read(name)?,
+                words: size,
+                times,
+            }),
+        }
+    }
+
+    /// Does the work, and answers a sum over what came out; 0 where a size is none that the part
+    /// takes.
     pub fn sum(self, alloc: Global) -> Result<u64, AllocError> {
         match self {
             Job::Commits { image, times } => runs_of_commits(alloc, image, times),
             Job::Scatter(scatter) => runs_of_scatter(alloc, scatter),
-            Job::Loads { words, times } => {
+            Job::Rids { choice, times } => count_of_rids(alloc, choice, times),
+            Job::Words { way, words, times } => {
                 if is_pool(words) {
-                    sum_of_loads(alloc, words, times)
+                    way.sum(alloc, words, times)
                 } else {
                     Ok(0)
                 }
             }
-            Job::Copies { words, times } => {
-                if is_pool(words) {
-                    sum_of_copies(alloc, words, times)
-                } else {
-                    Ok(0)
-                }
-            }
+            Job::Fills { bytes, times } => sum_of_fills(alloc, bytes, times),
+            Job::Pieces { bytes, times } => bytes_through(alloc, bytes, times),
+            Job::Kept { bytes, times } => bytes_in_ring(alloc, bytes, times),
+            Job::Judged { frames, times } => frames_accepted(alloc, frames, times),
+        }
+    }
+}
+
+impl Way {
+    // The way with this name, or None where no way has it.
+    fn read(name: &str) -> Option<Way> {
+        match name {
+            "loads" => Some(Way::Loads),
+            "writes" => Some(Way::Writes),
+            "copies" => Some(Way::Copies),
+            "atomics" => Some(Way::Atomics),
+            "one" => Some(Way::One),
+            _ => None,
+        }
+    }
+
+    // Does the work on so many words.
+    fn sum(self, alloc: Global, words: u32, times: u32) -> Result<u64, AllocError>
+        requires { (1 ≤ words) × (words ≤ 8388608) }
+    {
+        match self {
+            Way::Loads => sum_of_loads(alloc, words, times),
+            Way::Writes => count_of_writes(alloc, words, times),
+            Way::Copies => sum_of_copies(alloc, words, times),
+            Way::Atomics => sum_of_atomics(alloc, words, times),
+            Way::One => sum_by_one(alloc, words, times),
         }
     }
 }

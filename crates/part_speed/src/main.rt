@@ -3,7 +3,12 @@
 #![tactic(auto)]
 
 mod commits;
+mod copies;
 mod jobs;
+mod link_frames;
+mod mirrors;
+mod pipes;
+mod rids;
 mod words;
 
 use jobs::Job;
@@ -11,7 +16,8 @@ use std::io;
 
 // What a line may be.
 const WANTED: &str =
-    "commits WIDTH HEIGHT TIMES, scatter WIDTH HEIGHT ACROSS DOWN COUNT, loads WORDS TIMES or copies WORDS TIMES";
+    "commits WIDTH HEIGHT TIMES, scatter WIDTH HEIGHT ACROSS DOWN COUNT, rids COUNT BITS TIMES, \
+    loads, writes, copies, atomics or one WORDS TIMES, fills, pieces or kept BYTES TIMES, or judged FRAMES TIMES";
 
 fn main(rt: HostRuntime) -> io::Result<()> {
     for line in rt.lines(rt.alloc()) {
