@@ -47,6 +47,21 @@ def measure(words, path, times=3):
     return min(seconds for seconds, _ in runs), max(peak for _, peak in runs)
 
 
+@functools.cache
+def build(crate):
+    """Proves and builds a small program that does what the lines of its input say, once in a run."""
+    folder = os.path.join(ROOT, "crates", crate)
+    subprocess.run(["rt", "run"], cwd=folder, stdin=subprocess.DEVNULL, capture_output=True, check=False)
+
+
+def job_seconds(crate, folder, *job):
+    """The least time of one job of such a program."""
+    path = os.path.join(folder, "job")
+    with open(path, "w") as out:
+        print(*job, file=out)
+    return measure([os.path.join(ROOT, "crates", crate, "out", crate)], path)[0]
+
+
 def output(words, path):
     """What a program writes."""
     with open(path, "rb") as given:

@@ -2,6 +2,7 @@
 #![tactic(auto)]
 
 mod causes;
+mod conversions;
 mod deeds;
 mod items;
 mod laws;
@@ -9,6 +10,7 @@ mod lists;
 mod notes;
 mod roles;
 mod rows;
+mod sides;
 
 pub use causes::{HalfFault, Limit, PeerCause, TakeFault};
 pub use deeds::Deed;
@@ -27,3 +29,4 @@ pub use rows::{
     pipe_ends, pipe_row, returning_buffer, rotated_damage, said_sizes, scaled_damage,
     shut_pipe_row, twelve_frames, waiting_items,
 };
+pub use sides::{is_own, other_side};

@@ -20,13 +20,14 @@ abbrev pub Tests : {X : Type 0} → Result X PipeFault → Option FrameCause →
 Tests (Ok done) cause = cause ≡ None
 Tests (Err fault) cause = IsCause fault cause
 
--- of an item of this side's peer; none is refused as shut, and want of memory may come at any time
+-- of an item of this side's peer; none is refused as shut, and memory may run out at each item that
+-- is not refused
 abbrev pub AnswersItem : PipesState → PipeItem → Result (Option Frame) PipeFault → Type 0
 AnswersItem pipes item (Ok made) =
     (is_unknown pipes item ≡ false) × (made ≡ frame_of_item pipes item)
 AnswersItem pipes item (Err Unknown) = is_unknown pipes item ≡ true
 AnswersItem pipes item (Err Shut) = ⊥
-AnswersItem pipes item (Err Memory) = Unit {0}
+AnswersItem pipes item (Err Memory) = is_unknown pipes item ≡ false
 
 -- of a frame of the other side; want of memory may come at any time
 abbrev pub AnswersFrame : PipesState → Frame → Result (Option PipeItem) PipeFault → Type 0

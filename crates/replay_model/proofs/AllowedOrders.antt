@@ -15,7 +15,8 @@ use Rattle.wp_outside.specs.declared.kinds.Side.TheVariants.{Near, Far}
 use Rattle.script_lang.specs.Puts.{before_stop, put_by_all, puts}
 use Rattle.script_lang.specs.declared.steps.Step.{Step}
 use Rattle.replay_model.specs.Halves.{Pair, half_of, of_way, taken_by, given_by, made_by}
-use Rattle.replay_model.specs.Headline.{Starts, Passes, FrameRefused}
+use Rattle.plain_lists.specs.Fronts.{IsFront}
+use Rattle.replay_model.specs.Headline.{Passes, FrameRefused}
 use Rattle.replay_model.specs.Orders.{ComeNoFurther, Allowed}
 use Rattle.replay_model.specs.Passing.{objects_after, refusal}
 use Rattle.replay_model.specs.RunLaws.{AllPass}
@@ -24,7 +25,8 @@ use Rattle.replay_model.specs.declared.ends.End.TheVariants as ends
 use Rattle.replay_model.specs.declared.ends.Fault.{Fault}
 use Rattle.replay_model.specs.declared.ends.Fault.TheVariants.{Peer, Frame}
 use Rattle.replay_model.specs.declared.ends.Refusal.{Refusal}
-use Rattle.replay_model.proofs.Fronts.{starts_refl, starts_trans, starts_append, starts_length, within_or_beyond}
+use Rattle.plain_lists.proofs.FrontLemmas.{IsFront_self, IsFront_trans, IsFront-append, IsFront_length}
+use Rattle.replay_model.proofs.Fronts.{within_or_beyond}
 use Rattle.replay_model.proofs.Lines.{PartedAll, Ended, HasPut, all_parted_grows, put_by_more}
 use Rattle.replay_model.proofs.Options.{not_both}
 use Rattle.replay_model.proofs.RunEnds.{Kept, kept, all_put}
@@ -34,29 +36,29 @@ use Rattle.replay_model.proofs.Wires.{NextIs, SizeIs, Stuck, cut_more, stuck_mor
 -- ---- orders that fit what was put
 
 pub record Fits (requests events : List ℕ) (near far : List (Way × List ℕ)) : Type 0 where
-  pub near_requests : Starts (of_way Request near) (cut requests)
-  pub far_requests : Starts (of_way Request far) (of_way Request near)
-  pub far_events : Starts (of_way Event far) (cut events)
-  pub near_events : Starts (of_way Event near) (visible first_state far)
+  pub near_requests : IsFront (of_way Request near) (cut requests)
+  pub far_requests : IsFront (of_way Request far) (of_way Request near)
+  pub far_events : IsFront (of_way Event far) (cut events)
+  pub near_events : IsFront (of_way Event near) (visible first_state far)
 
 -- what lines put is cut within what these and others put
-lines_more : (side : Side) (done more : List Step) → Starts (cut (put_by_all side done)) (cut (put_by_all side (done ++ more)))
-lines_more side done more = subst (λ (l : List ℕ). Starts (cut (put_by_all side done)) (cut l)) (sym (put_by_more side done more)) (cut_more (put_by_all side done) (put_by_all side more))
+lines_more : (side : Side) (done more : List Step) → IsFront (cut (put_by_all side done)) (cut (put_by_all side (done ++ more)))
+lines_more side done more = subst (λ (l : List ℕ). IsFront (cut (put_by_all side done)) (cut l)) (sym (put_by_more side done more)) (cut_more (put_by_all side done) (put_by_all side more))
 
 no_further : (done more : List Step) (near far : List (Way × List ℕ)) → Fits (put_by_all Near done) (put_by_all Far done) near far
     → ComeNoFurther (cut (put_by_all Near (done ++ more))) (cut (put_by_all Far (done ++ more))) near far
 no_further done more near far it = record {
-  near_requests = starts_length (starts_trans it.near_requests (lines_more Near done more));
-  far_requests = starts_length (starts_trans it.far_requests (starts_trans it.near_requests (lines_more Near done more)));
-  far_events = starts_length (starts_trans it.far_events (lines_more Far done more));
+  near_requests = IsFront_length (IsFront_trans it.near_requests (lines_more Near done more));
+  far_requests = IsFront_length (IsFront_trans it.far_requests (IsFront_trans it.near_requests (lines_more Near done more)));
+  far_events = IsFront_length (IsFront_trans it.far_events (lines_more Far done more));
 }
 
 pub fits_allowed : (steps done more : List Step) (near far : List (Way × List ℕ)) → before_stop steps ≡ done ++ more
     → Fits (put_by_all Near done) (put_by_all Far done) near far → PartedAll done near far → Allowed steps near far
 fits_allowed steps done more near far lines it all = record {
-  near_requests = starts_trans it.near_requests (in_all Near);
+  near_requests = IsFront_trans it.near_requests (in_all Near);
   far_requests = it.far_requests;
-  far_events = starts_trans it.far_events (in_all Far);
+  far_events = IsFront_trans it.far_events (in_all Far);
   near_events = it.near_events;
   parted = λ before after line is moves. elim (within_or_beyond before after done more line (sym is ∙ lines)) [
     | inl found ↦ inr (all before found.0 line found.1 moves)
@@ -64,16 +66,16 @@ fits_allowed steps done more near far lines it all = record {
   ];
 }
   where
-    in_all : (side : Side) → Starts (cut (put_by_all side done)) (cut (puts side steps))
-    in_all side = subst (λ (l : List Step). Starts (cut (put_by_all side done)) (cut (put_by_all side l))) (sym lines) (lines_more side done more)
+    in_all : (side : Side) → IsFront (cut (put_by_all side done)) (cut (puts side steps))
+    in_all side = subst (λ (l : List Step). IsFront (cut (put_by_all side done)) (cut (put_by_all side l))) (sym lines) (lines_more side done more)
 
 -- ---- the orders of a run
 
 kept_fits : (done : List Step) (pair : Pair) → HasPut done pair → Kept pair → Fits (put_by_all Near done) (put_by_all Far done) pair.near.order pair.far.order
 kept_fits done pair put it = record {
-  near_requests = subst (λ (l : List ℕ). Starts (taken_by Near pair.near) (cut l)) put.near it.near.took;
+  near_requests = subst (λ (l : List ℕ). IsFront (taken_by Near pair.near) (cut l)) put.near it.near.took;
   far_requests = it.up.front;
-  far_events = subst (λ (l : List ℕ). Starts (taken_by Far pair.far) (cut l)) put.far it.far.took;
+  far_events = subst (λ (l : List ℕ). IsFront (taken_by Far pair.far) (cut l)) put.far it.far.took;
   near_events = it.down.front;
 }
 
@@ -88,46 +90,46 @@ not_passes : (order : List (Way × List ℕ)) (way : Way) (message : List ℕ) (
 not_passes order way message cause is passes = not_both (refusal order way message) cause is (passes.none_refused order [] (way, message) refl)
 
 -- with the next message behind them the messages of a way are a front still
-next_starts : (order whole rest : List (List ℕ)) (message : List ℕ) → whole ≡ order ++ message ∷ rest → Starts (order ++ message ∷ []) whole
+next_starts : (order whole rest : List (List ℕ)) (message : List ℕ) → whole ≡ order ++ message ∷ rest → IsFront (order ++ message ∷ []) whole
 next_starts order whole rest message is = record { rest = rest; is = append_assoc order (message ∷ []) rest ∙ sym is }
 
-one_more : (order : List (List ℕ)) (message : List ℕ) → Starts order (order ++ message ∷ [])
-one_more order message = starts_append order (message ∷ [])
+one_more : (order : List (List ℕ)) (message : List ℕ) → IsFront order (order ++ message ∷ [])
+one_more order message = IsFront-append order (message ∷ [])
 
-near_request : (requests events message : List ℕ) (near far : List (Way × List ℕ)) → Fits requests events near far → Starts (of_way Request near ++ message ∷ []) (cut requests)
+near_request : (requests events message : List ℕ) (near far : List (Way × List ℕ)) → Fits requests events near far → IsFront (of_way Request near ++ message ∷ []) (cut requests)
     → Fits requests events (near ++ (Request, message) ∷ []) far
 near_request requests events message near far it next = record {
-  near_requests = subst (λ (l : List (List ℕ)). Starts l (cut requests)) (sym (requests_added near (message ∷ []))) next;
-  far_requests = starts_trans it.far_requests (subst (Starts (of_way Request near)) (sym (requests_added near (message ∷ []))) (one_more (of_way Request near) message));
+  near_requests = subst (λ (l : List (List ℕ)). IsFront l (cut requests)) (sym (requests_added near (message ∷ []))) next;
+  far_requests = IsFront_trans it.far_requests (subst (IsFront (of_way Request near)) (sym (requests_added near (message ∷ []))) (one_more (of_way Request near) message));
   far_events = it.far_events;
-  near_events = subst (λ (l : List (List ℕ)). Starts l (visible first_state far)) (sym (events_stay near (message ∷ []))) it.near_events;
+  near_events = subst (λ (l : List (List ℕ)). IsFront l (visible first_state far)) (sym (events_stay near (message ∷ []))) it.near_events;
 }
 
-near_event : (requests events message : List ℕ) (near far : List (Way × List ℕ)) → Fits requests events near far → Starts (of_way Event near ++ message ∷ []) (visible first_state far)
+near_event : (requests events message : List ℕ) (near far : List (Way × List ℕ)) → Fits requests events near far → IsFront (of_way Event near ++ message ∷ []) (visible first_state far)
     → Fits requests events (near ++ (Event, message) ∷ []) far
 near_event requests events message near far it next = record {
-  near_requests = subst (λ (l : List (List ℕ)). Starts l (cut requests)) (sym (requests_stay near (message ∷ []))) it.near_requests;
-  far_requests = subst (Starts (of_way Request far)) (sym (requests_stay near (message ∷ []))) it.far_requests;
+  near_requests = subst (λ (l : List (List ℕ)). IsFront l (cut requests)) (sym (requests_stay near (message ∷ []))) it.near_requests;
+  far_requests = subst (IsFront (of_way Request far)) (sym (requests_stay near (message ∷ []))) it.far_requests;
   far_events = it.far_events;
-  near_events = subst (λ (l : List (List ℕ)). Starts l (visible first_state far)) (sym (events_added near (message ∷ []))) next;
+  near_events = subst (λ (l : List (List ℕ)). IsFront l (visible first_state far)) (sym (events_added near (message ∷ []))) next;
 }
 
-far_event : (requests events message : List ℕ) (near far : List (Way × List ℕ)) → Passes far → Fits requests events near far → Starts (of_way Event far ++ message ∷ []) (cut events)
+far_event : (requests events message : List ℕ) (near far : List (Way × List ℕ)) → Passes far → Fits requests events near far → IsFront (of_way Event far ++ message ∷ []) (cut events)
     → Fits requests events near (far ++ (Event, message) ∷ [])
 far_event requests events message near far passes it next = record {
   near_requests = it.near_requests;
-  far_requests = subst (λ (l : List (List ℕ)). Starts l (of_way Request near)) (sym (requests_stay far (message ∷ []))) it.far_requests;
-  far_events = subst (λ (l : List (List ℕ)). Starts l (cut events)) (sym (events_added far (message ∷ []))) next;
-  near_events = starts_trans it.near_events (visible_more far ((Event, message) ∷ []) (objects_after far) passes.tracked);
+  far_requests = subst (λ (l : List (List ℕ)). IsFront l (of_way Request near)) (sym (requests_stay far (message ∷ []))) it.far_requests;
+  far_events = subst (λ (l : List (List ℕ)). IsFront l (cut events)) (sym (events_added far (message ∷ []))) next;
+  near_events = IsFront_trans it.near_events (visible_more far ((Event, message) ∷ []) (objects_after far) passes.tracked);
 }
 
-far_request : (requests events message : List ℕ) (near far : List (Way × List ℕ)) → Passes far → Fits requests events near far → Starts (of_way Request far ++ message ∷ []) (of_way Request near)
+far_request : (requests events message : List ℕ) (near far : List (Way × List ℕ)) → Passes far → Fits requests events near far → IsFront (of_way Request far ++ message ∷ []) (of_way Request near)
     → Fits requests events near (far ++ (Request, message) ∷ [])
 far_request requests events message near far passes it next = record {
   near_requests = it.near_requests;
-  far_requests = subst (λ (l : List (List ℕ)). Starts l (of_way Request near)) (sym (requests_added far (message ∷ []))) next;
-  far_events = subst (λ (l : List (List ℕ)). Starts l (cut events)) (sym (events_stay far (message ∷ []))) it.far_events;
-  near_events = starts_trans it.near_events (visible_more far ((Request, message) ∷ []) (objects_after far) passes.tracked);
+  far_requests = subst (λ (l : List (List ℕ)). IsFront l (of_way Request near)) (sym (requests_added far (message ∷ []))) next;
+  far_events = subst (λ (l : List (List ℕ)). IsFront l (cut events)) (sym (events_stay far (message ∷ []))) it.far_events;
+  near_events = IsFront_trans it.near_events (visible_more far ((Request, message) ∷ []) (objects_after far) passes.tracked);
 }
 
 -- ---- no fault comes
@@ -139,7 +141,7 @@ near_refused steps done more near far way message cause all lines parted refused
     not_passes near way message cause refused
     (all.passes (near ++ (way, message) ∷ []) far
     (fits_allowed steps done more (near ++ (way, message) ∷ []) far lines fits
-    (all_parted_grows done near far (near ++ (way, message) ∷ []) far (starts_append near ((way, message) ∷ [])) (starts_refl far) parted))).0
+    (all_parted_grows done near far (near ++ (way, message) ∷ []) far (IsFront-append near ((way, message) ∷ [])) (IsFront_self far) parted))).0
 
 far_refused : (steps done more : List Step) (near far : List (Way × List ℕ)) (way : Way) (message : List ℕ) (cause : Refusal) → AllPass steps → before_stop steps ≡ done ++ more → PartedAll done near far
     → refusal far way message ≡ Some cause → Fits (put_by_all Near done) (put_by_all Far done) near (far ++ (way, message) ∷ []) → ⊥
@@ -147,7 +149,7 @@ far_refused steps done more near far way message cause all lines parted refused 
     not_passes far way message cause refused
     (all.passes near (far ++ (way, message) ∷ [])
     (fits_allowed steps done more near (far ++ (way, message) ∷ []) lines fits
-    (all_parted_grows done near far near (far ++ (way, message) ∷ []) (starts_refl near) (starts_append far ((way, message) ∷ [])) parted))).1
+    (all_parted_grows done near far near (far ++ (way, message) ∷ []) (IsFront_self near) (IsFront-append far ((way, message) ∷ [])) parted))).1
 
 -- a size that is at fault where it was put is at fault in the whole script
 size_met : (side : Side) (steps : List Step) (pair : Pair) (more : List ℕ) (fault : WireFault) → puts side steps ≡ (half_of side pair).put ++ more → cut_fault (half_of side pair).put ≡ Some fault → cut_fault (puts side steps) ≡ None → ⊥

@@ -19,9 +19,9 @@ use Rattle.transfer_frames.specs.Grammar.{IsFrame, spelling}
 use Rattle.transfer_frames.specs.Laws.{NoFrame}
 use Rattle.transfer_frames.proofs.FrameLaws.{length-spelling}
 use Rattle.transfer_frames.proofs.FrontLaws.{front-short, front-spelled, front-proper}
-use Rattle.replay_model.specs.Headline.{Starts}
+use Rattle.plain_lists.specs.Fronts.{IsFront}
 use Rattle.replay_model.specs.Rows.{frame_of, frames_of, whole_in}
-use Rattle.replay_model.proofs.Fronts.{starts_refl}
+use Rattle.plain_lists.proofs.FrontLemmas.{IsFront_self}
 use Rattle.replay_model.proofs.Ways.{AreMessages}
 
 -- a frame has a first word at least
@@ -45,22 +45,22 @@ none_in_nothing (message ∷ messages) count none = first_part message messages 
 
 -- ---- which messages they are
 
-pub whole_starts : (made : List (List ℕ)) (count : ℕ) → Starts (whole_in made count) made
-whole_starts [] count = starts_refl []
+pub whole_starts : (made : List (List ℕ)) (count : ℕ) → IsFront (whole_in made count) made
+whole_starts [] count = IsFront_self []
 whole_starts (message ∷ made) count = elim (cases_lt count (length (frame_of message))) [
   | inl part ↦ record { rest = message ∷ made; is = ap (λ (l : List (List ℕ)). l ++ (message ∷ made)) (first_part message made count part) }
   | inr fits ↦
-      let later : Starts (whole_in made (count - length (frame_of message))) made = whole_starts made (count - length (frame_of message)) in
+      let later : IsFront (whole_in made (count - length (frame_of message))) made = whole_starts made (count - length (frame_of message)) in
       record { rest = later.rest; is = ap (λ (l : List (List ℕ)). l ++ later.rest) (first_fits message made count fits) ∙ ap (λ (l : List (List ℕ)). message ∷ l) later.is }
 ]
 
 -- more bytes have more of them
-pub whole_grows : (made : List (List ℕ)) (few many : ℕ) → few ≤ many → Starts (whole_in made few) (whole_in made many)
-whole_grows [] few many le = starts_refl []
+pub whole_grows : (made : List (List ℕ)) (few many : ℕ) → few ≤ many → IsFront (whole_in made few) (whole_in made many)
+whole_grows [] few many le = IsFront_self []
 whole_grows (message ∷ made) few many le = elim (cases_lt few (length (frame_of message))) [
   | inl part ↦ record { rest = whole_in (message ∷ made) many; is = ap (λ (l : List (List ℕ)). l ++ whole_in (message ∷ made) many) (first_part message made few part) }
   | inr fits ↦
-      let later : Starts (whole_in made (few - length (frame_of message))) (whole_in made (many - length (frame_of message))) =
+      let later : IsFront (whole_in made (few - length (frame_of message))) (whole_in made (many - length (frame_of message))) =
       whole_grows made (few - length (frame_of message)) (many - length (frame_of message)) (omega arith) in
       record {
         rest = later.rest;

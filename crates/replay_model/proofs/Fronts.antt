@@ -1,34 +1,5 @@
--- Lists that begin others, and lists that are parted in two ways.
-use Rattle.std.proofs.Common.{◌≡◌, ◌≤◌, ◌⊎◌, inl, inr, List, [], ◌∷◌, ◌++◌, length, drop, refl, sym, ap, ◌∙◌, append_assoc, append-nil, arith, length-append}
-use Rattle.std.proofs.lemmas.List.{nil_from_length, drop_at}
-use Rattle.replay_model.specs.Headline.{Starts}
-
-pub starts_refl : {X : Type 0} (xs : List X) → Starts xs xs
-starts_refl xs = record { rest = []; is = append-nil xs }
-
-pub starts_same : {X : Type 0} (xs ys : List X) → xs ≡ ys → Starts xs ys
-starts_same xs ys same = record { rest = []; is = append-nil xs ∙ same }
-
-pub starts_append : {X : Type 0} (xs ys : List X) → Starts xs (xs ++ ys)
-starts_append xs ys = record { rest = ys; is = refl }
-
-pub starts_trans : {X : Type 0} {xs ys zs : List X} → Starts xs ys → Starts ys zs → Starts xs zs
-starts_trans {X} {xs} {ys} {zs} a b =
-    record { rest = a.rest ++ b.rest; is = sym (append_assoc xs a.rest b.rest) ∙ ap (λ (l : List X). l ++ b.rest) a.is ∙ b.is }
-
-pub starts_length : {X : Type 0} {xs ys : List X} → Starts xs ys → length xs ≤ length ys
-starts_length {X} {xs} {ys} a = omega (arith, length-append xs a.rest, ap length a.is)
-
--- a list is its front and what stands behind it
-pub starts_drop : {X : Type 0} {xs ys : List X} → Starts xs ys → xs ++ drop (length xs) ys ≡ ys
-starts_drop {X} {xs} {ys} a =
-    ap (λ (l : List X). xs ++ drop (length xs) l) (sym a.is) ∙ ap (λ (l : List X). xs ++ l) (drop_at xs a.rest (length xs) refl) ∙ a.is
-
--- two lists that begin each other are one
-pub starts_both : {X : Type 0} {xs ys : List X} → Starts xs ys → Starts ys xs → xs ≡ ys
-starts_both {X} {xs} {ys} a b =
-    let none : length a.rest ≡ 0 = omega (arith, length-append xs a.rest, ap length a.is, starts_length b) in
-    sym (append-nil xs) ∙ ap (λ (l : List X). xs ++ l) (sym (nil_from_length a.rest none)) ∙ a.is
+-- Lists that are parted in two ways.
+use Rattle.std.proofs.Common.{◌≡◌, ◌⊎◌, inl, inr, List, [], ◌∷◌, ◌++◌, refl, sym, ap, ◌∙◌}
 
 pub not_empty : {X : Type 0} (front : List X) (it : X) (back : List X) → [] ≡ front ++ it ∷ back → ⊥
 not_empty [] it back e = cc

@@ -14,14 +14,15 @@ use Rattle.script_lang.specs.declared.steps.Step.{Step}
 use Rattle.script_lang.specs.declared.steps.StepKind.{StepKind}
 use Rattle.script_lang.specs.declared.steps.StepKind.TheVariants as line
 use Rattle.replay_model.specs.Halves.{Half, Pair, first_half, first_pair, taken_by, given_by, made_by}
-use Rattle.replay_model.specs.Headline.{Starts}
+use Rattle.plain_lists.specs.Fronts.{IsFront}
 use Rattle.replay_model.specs.Orders.{Parted}
 use Rattle.replay_model.specs.Rows.{frames_of, whole_in}
 use Rattle.replay_model.specs.Runs.{Settles, settles, MOST, Does, DoesBy, size_after, end_by, PlaysLine, Plays, Runs}
 use Rattle.replay_model.specs.declared.ends.End.{End}
 use Rattle.replay_model.specs.declared.ends.End.TheVariants as ends
 use Rattle.replay_model.specs.declared.ends.Fault.{Fault}
-use Rattle.replay_model.proofs.Fronts.{starts_refl, starts_trans, last_or_before}
+use Rattle.plain_lists.proofs.FrontLemmas.{IsFront_self, IsFront_trans}
+use Rattle.replay_model.proofs.Fronts.{last_or_before}
 use Rattle.replay_model.proofs.FrameRows.{whole_all}
 use Rattle.replay_model.proofs.ManyMoves.{came_rounds, came_line}
 use Rattle.replay_model.proofs.Passages.{passes_nothing}
@@ -65,19 +66,19 @@ pub record Ended (whole : List Step) (pair : Pair) (end : End) : Type 0 where
 
 -- ---- lines that parted messages part them still
 
-pub parted_grows : (requests events : List (List ℕ)) (near far near_later far_later : List (Way × List ℕ)) → Starts near near_later → Starts far far_later → Parted requests events near far → Parted requests events near_later far_later
+pub parted_grows : (requests events : List (List ℕ)) (near far near_later far_later : List (Way × List ℕ)) → IsFront near near_later → IsFront far far_later → Parted requests events near far → Parted requests events near_later far_later
 parted_grows requests events near far near_later far_later n f it = record {
   near_front = it.near_front;
   far_front = it.far_front;
-  near_starts = starts_trans it.near_starts n;
-  far_starts = starts_trans it.far_starts f;
+  near_starts = IsFront_trans it.near_starts n;
+  far_starts = IsFront_trans it.far_starts f;
   near_requests = it.near_requests;
   far_requests = it.far_requests;
   far_events = it.far_events;
   near_events = it.near_events;
 }
 
-pub all_parted_grows : (done : List Step) (near far near_later far_later : List (Way × List ℕ)) → Starts near near_later → Starts far far_later → PartedAll done near far → PartedAll done near_later far_later
+pub all_parted_grows : (done : List Step) (near far near_later far_later : List (Way × List ℕ)) → IsFront near near_later → IsFront far far_later → PartedAll done near far → PartedAll done near_later far_later
 all_parted_grows done near far near_later far_later n f all before after it is moves =
     parted_grows (cut (put_by_all Near before)) (cut (put_by_all Far before)) near far near_later far_later n f (all before after it is moves)
 
@@ -114,8 +115,8 @@ parted_here : (done : List Step) (pair : Pair) → HasPut done pair → MovedAll
 parted_here done pair put all = record {
   near_front = pair.near.order;
   far_front = pair.far.order;
-  near_starts = starts_refl pair.near.order;
-  far_starts = starts_refl pair.far.order;
+  near_starts = IsFront_self pair.near.order;
+  far_starts = IsFront_self pair.far.order;
   near_requests = all.near_took ∙ ap cut put.near;
   far_requests = all.up ∙ all.near_took ∙ ap cut put.near;
   far_events = all.far_took ∙ ap cut put.far;

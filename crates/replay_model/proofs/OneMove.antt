@@ -11,7 +11,7 @@ use Rattle.replay_model.specs.Moves.{Move, Put, Take, Connect, ConnectIfMade, Pu
 use Rattle.replay_model.specs.declared.ends.Fault.{Fault}
 use Rattle.replay_model.specs.declared.ends.Fault.TheVariants.{Peer, Frame}
 use Rattle.replay_model.specs.declared.ends.Refusal.{Refusal}
-use Rattle.replay_model.proofs.Fronts.{starts_refl, starts_same, starts_append}
+use Rattle.plain_lists.proofs.FrontLemmas.{IsFront_self, IsFront_same, IsFront-append}
 use Rattle.replay_model.proofs.Pulling.{Flows, Brings, AfterPull, PullComes, flow_out, flow_pushed, flow_in, pulled_half, pulls}
 use Rattle.replay_model.proofs.Sides.{made_grows, made_stays, given_stays}
 use Rattle.replay_model.proofs.Ways.{tagged}
@@ -21,7 +21,7 @@ use Rattle.replay_model.proofs.Standing.{Stands, After, HalfGrew, Came, half_gre
 -- ---- bytes are put
 
 half_put : (bytes : List ℕ) (half : Half) → HalfGrew half (with_put bytes half)
-half_put bytes half = record { put = starts_append half.put bytes; taken = le_refl half.taken; pushed = le_refl half.pushed; pulled = le_refl half.pulled; order = starts_refl half.order }
+half_put bytes half = record { put = IsFront-append half.put bytes; taken = le_refl half.taken; pushed = le_refl half.pushed; pulled = le_refl half.pulled; order = IsFront_self half.order }
 
 came_put : (side : Side) (bytes : List ℕ) (old new : Pair) (stop : Option Fault) → Stands old → Moves (Put side bytes) old new stop → Came old new stop (if_peer Near side bytes) (if_peer Far side bytes)
 came_put Near bytes old new stop it move = came_at old new (record old { near = with_put bytes old.near }) stop None bytes [] move.0 move.1 (record {
@@ -31,7 +31,7 @@ came_put Near bytes old new stop it move = came_at old new (record old { near = 
   after = record {
     near = took_put Near bytes old.near it.near;
     far = it.far;
-    up = flow_out Near Far old.near (with_put bytes old.near) old.far it.up (starts_refl (made_by Near old.near)) refl;
+    up = flow_out Near Far old.near (with_put bytes old.near) old.far it.up (IsFront_self (made_by Near old.near)) refl;
     down = flow_in Far Near old.far old.near (with_put bytes old.near) it.down refl refl;
   };
 })
@@ -43,7 +43,7 @@ came_put Far bytes old new stop it move = came_at old new (record old { far = wi
     near = it.near;
     far = took_put Far bytes old.far it.far;
     up = flow_in Near Far old.near old.far (with_put bytes old.far) it.up refl refl;
-    down = flow_out Far Near old.far (with_put bytes old.far) old.near it.down (starts_refl (made_by Far old.far)) refl;
+    down = flow_out Far Near old.far (with_put bytes old.far) old.near it.down (IsFront_self (made_by Far old.far)) refl;
   };
 })
 
@@ -51,7 +51,7 @@ came_put Far bytes old new stop it move = came_at old new (record old { far = wi
 
 half_took : (side : Side) (old new : Half) (refused : Option Refusal) → AfterTake side old new refused → HalfGrew old new
 half_took side old new refused it = record {
-  put = starts_same old.put new.put (sym it.put);
+  put = IsFront_same old.put new.put (sym it.put);
   taken = it.taken;
   pushed = le_of_eq (sym it.pushed);
   pulled = le_of_eq (sym it.pulled);
@@ -107,11 +107,11 @@ pushed_more old whole most within = (omega arith, omega arith)
 
 half_pushed : (side : Side) (most : ℕ) (half : Half) → half.pushed ≤ length (frame_bytes side half) → HalfGrew half (with_pushed side most half)
 half_pushed side most half within = record {
-  put = starts_refl half.put;
+  put = IsFront_self half.put;
   taken = le_refl half.taken;
   pushed = (pushed_more half.pushed (length (frame_bytes side half)) most within).0;
   pulled = le_refl half.pulled;
-  order = starts_refl half.order;
+  order = IsFront_self half.order;
 }
 
 came_push : (dir : Direction) (most : ℕ) (old new : Pair) (stop : Option Fault) → Stands old → Moves (Push dir most) old new stop → Came old new stop [] []
@@ -154,7 +154,7 @@ came_push Down most old new stop it move = by_linked old.connected move.0
 
 half_pulled : (reader : Side) (from old new : Half) (refused : Option Refusal) → AfterPull reader from old new refused → HalfGrew old new
 half_pulled reader from old new refused it = record {
-  put = starts_same old.put new.put (sym it.put);
+  put = IsFront_same old.put new.put (sym it.put);
   taken = le_of_eq (sym it.taken);
   pushed = le_of_eq (sym it.pushed);
   pulled = it.pulled;
@@ -192,7 +192,7 @@ came_pull Up most old new stop it move =
     let took : Took Far (pulled_half Far old.near old.far move.1.upto) = took_heard Far old.far (pulled_half Far old.near old.far move.1.upto) pulled.more it.far pulled.order pulled.passes refl refl in
     let down : Flows Far Near (pulled_half Far old.near old.far move.1.upto) old.near =
     flow_out Far Near old.far (pulled_half Far old.near old.far move.1.upto) old.near it.down
-    (starts_same (made_by Far old.far) (made_by Far (pulled_half Far old.near old.far move.1.upto)) (sym (made_stays Far old.far (pulled_half Far old.near old.far move.1.upto) pulled.more it.far.passes pulled.order))) refl in
+    (IsFront_same (made_by Far old.far) (made_by Far (pulled_half Far old.near old.far move.1.upto)) (sym (made_stays Far old.far (pulled_half Far old.near old.far move.1.upto) pulled.more it.far.passes pulled.order))) refl in
     came_at old new (record old { far = half }) stop (option_map (Frame Far) told) [] [] move.1.came move.2
     (quiet old (record old { far = half }) (option_map (Frame Far) told) refl refl
     (record { near = half_grew_refl old.near; far = half_pulled Far old.near old.far half told pulled; linked = λ e. e })
@@ -205,7 +205,7 @@ came_pull Down most old new stop it move =
     let took : Took Near (pulled_half Near old.far old.near move.1.upto) = took_heard Near old.near (pulled_half Near old.far old.near move.1.upto) pulled.more it.near pulled.order pulled.passes refl refl in
     let up : Flows Near Far (pulled_half Near old.far old.near move.1.upto) old.far =
     flow_out Near Far old.near (pulled_half Near old.far old.near move.1.upto) old.far it.up
-    (starts_same (made_by Near old.near) (made_by Near (pulled_half Near old.far old.near move.1.upto)) (sym (made_stays Near old.near (pulled_half Near old.far old.near move.1.upto) pulled.more it.near.passes pulled.order))) refl in
+    (IsFront_same (made_by Near old.near) (made_by Near (pulled_half Near old.far old.near move.1.upto)) (sym (made_stays Near old.near (pulled_half Near old.far old.near move.1.upto) pulled.more it.near.passes pulled.order))) refl in
     came_at old new (record old { near = half }) stop (option_map (Frame Near) told) [] [] move.1.came move.2
     (quiet old (record old { near = half }) (option_map (Frame Near) told) refl refl
     (record { near = half_pulled Near old.far old.near half told pulled; far = half_grew_refl old.far; linked = λ e. e })

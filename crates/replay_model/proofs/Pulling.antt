@@ -5,11 +5,12 @@ use Rattle.std.proofs.Common.{◌≡◌, ℕ, ◌+◌, ◌≤◌, List, ◌∷�
 use Rattle.std.proofs.Math.Nat.{min-le_left}
 use Rattle.wp_outside.specs.declared.kinds.Side.{Side}
 use Rattle.replay_model.specs.Halves.{Half, other, heard_way, given_by, made_by}
-use Rattle.replay_model.specs.Headline.{Starts, Passes, Carries}
+use Rattle.plain_lists.specs.Fronts.{IsFront}
+use Rattle.replay_model.specs.Headline.{Passes, Carries}
 use Rattle.replay_model.specs.Passing.{refusal, Passage, pass_all}
 use Rattle.replay_model.specs.Rows.{frame_of, frames_of, whole_in}
 use Rattle.replay_model.specs.declared.ends.Refusal.{Refusal}
-use Rattle.replay_model.proofs.Fronts.{starts_same, starts_trans, starts_drop}
+use Rattle.plain_lists.proofs.FrontLemmas.{IsFront_same, IsFront_trans, IsFront_drop}
 use Rattle.replay_model.proofs.FrameRows.{frames_append, whole_starts, whole_grows, whole_behind, whole_fit}
 use Rattle.replay_model.proofs.Passages.{Comes, Passed, passed}
 use Rattle.replay_model.proofs.Sides.{PassedHeard, given_added}
@@ -23,13 +24,13 @@ pub record Flows (writer reader : Side) (from to : Half) : Type 0 where
 
 -- what is left of that where the reader met a fault
 pub record Brings (writer reader : Side) (from to : Half) : Type 0 where
-  pub front : Starts (given_by reader to) (made_by writer from)
+  pub front : IsFront (given_by reader to) (made_by writer from)
   pub pulled : to.pulled ≤ from.pushed
   pub pushed : from.pushed ≤ length (frames_of (made_by writer from))
 
 pub brings : (writer reader : Side) (from to : Half) → Flows writer reader from to → Brings writer reader from to
 brings writer reader from to it = record {
-  front = starts_trans (starts_same (given_by reader to) (whole_in (made_by writer from) to.pulled) it.given) (whole_starts (made_by writer from) to.pulled);
+  front = IsFront_trans (IsFront_same (given_by reader to) (whole_in (made_by writer from) to.pulled) it.given) (whole_starts (made_by writer from) to.pulled);
   pulled = it.pulled;
   pushed = it.pushed;
 }
@@ -42,13 +43,13 @@ carries writer reader from to it whole = record { front = it.front; pulled = it.
 enough : (a b c : List ℕ) (n : ℕ) → a ++ b ≡ c → n ≤ length a → n ≤ length c
 enough a b c n is le = omega (arith, length-append a b, ap length is)
 
-frames_more : (made more : List (List ℕ)) (n : ℕ) → Starts made more → n ≤ length (frames_of made) → n ≤ length (frames_of more)
+frames_more : (made more : List (List ℕ)) (n : ℕ) → IsFront made more → n ≤ length (frames_of made) → n ≤ length (frames_of more)
 frames_more made more n it le = enough (frames_of made) (frames_of it.rest) (frames_of more) n (sym (frames_append made it.rest) ∙ ap (λ (l : List (List ℕ)). frames_of l) it.is) le
 
-whole_more : (made more : List (List ℕ)) (n : ℕ) → Starts made more → n ≤ length (frames_of made) → whole_in more n ≡ whole_in made n
+whole_more : (made more : List (List ℕ)) (n : ℕ) → IsFront made more → n ≤ length (frames_of made) → whole_in more n ≡ whole_in made n
 whole_more made more n it le = ap (λ (l : List (List ℕ)). whole_in l n) (sym it.is) ∙ whole_behind made it.rest n le
 
-pub flow_out : (writer reader : Side) (old new to : Half) → Flows writer reader old to → Starts (made_by writer old) (made_by writer new) → new.pushed ≡ old.pushed → Flows writer reader new to
+pub flow_out : (writer reader : Side) (old new to : Half) → Flows writer reader old to → IsFront (made_by writer old) (made_by writer new) → new.pushed ≡ old.pushed → Flows writer reader new to
 flow_out writer reader old new to it grows same = record {
   given = it.given ∙ sym (whole_more (made_by writer old) (made_by writer new) to.pulled grows (le_trans it.pulled it.pushed));
   pulled = subst (λ (n : ℕ). to.pulled ≤ n) (sym same) it.pulled;
@@ -108,7 +109,7 @@ pulled_half reader from to upto = record to { pulled = upto; order = (heard_by r
 
 pub in_frames : (reader : Side) (from to : Half) (upto : ℕ) → Flows (other reader) reader from to → to.pulled ≤ upto → given_by reader to ++ next_in_frames reader from to upto ≡ whole_in (made_by (other reader) from) upto
 in_frames reader from to upto it ahead =
-    starts_drop (starts_trans (starts_same (given_by reader to) (whole_in (made_by (other reader) from) to.pulled) it.given) (whole_grows (made_by (other reader) from) to.pulled upto ahead))
+    IsFront_drop (IsFront_trans (IsFront_same (given_by reader to) (whole_in (made_by (other reader) from) to.pulled) it.given) (whole_grows (made_by (other reader) from) to.pulled upto ahead))
 
 -- the reader's messages and the refused one lie in what was read
 frames_read : (made given rest : List (List ℕ)) (message : List ℕ) (n : ℕ) → whole_in made n ≡ given ++ message ∷ rest → length (frames_of given ++ frame_of message) ≤ n
@@ -140,7 +141,7 @@ pull_comes reader from old new more (Some cause) frames order comes within pushe
     sym frames ∙ ap (λ (l : List (List ℕ)). given_by reader old ++ l) comes.1.1
     ∙ sym (append_assoc (given_by reader old) more (comes.0 ∷ comes.1.0))
     ∙ ap (λ (l : List (List ℕ)). l ++ (comes.0 ∷ comes.1.0)) (sym (given_added reader old new more order)) in
-    let made : Starts (whole_in (made_by (other reader) from) new.pulled) (made_by (other reader) from) = whole_starts (made_by (other reader) from) new.pulled in
+    let made : IsFront (whole_in (made_by (other reader) from) new.pulled) (made_by (other reader) from) = whole_starts (made_by (other reader) from) new.pulled in
     let all : made_by (other reader) from ≡ given_by reader new ++ comes.0 ∷ (comes.1.0 ++ made.rest) =
     sym made.is ∙ ap (λ (l : List (List ℕ)). l ++ made.rest) there ∙ append_assoc (given_by reader new) (comes.0 ∷ comes.1.0) made.rest in (
       record {

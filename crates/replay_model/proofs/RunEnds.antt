@@ -11,13 +11,14 @@ use Rattle.wp_outside.specs.declared.kinds.Side.TheVariants.{Near, Far}
 use Rattle.script_lang.specs.Puts.{before_stop, put_by_all, puts}
 use Rattle.script_lang.specs.declared.steps.Step.{Step}
 use Rattle.replay_model.specs.Halves.{Half, Pair, half_of, taken_by, given_by, made_by}
-use Rattle.replay_model.specs.Headline.{Starts, Holds, HoldsAll, NextRefused, SizeRefused, ReadsAll, EndsWith}
+use Rattle.plain_lists.specs.Fronts.{IsFront}
+use Rattle.replay_model.specs.Headline.{Holds, HoldsAll, NextRefused, SizeRefused, ReadsAll, EndsWith}
 use Rattle.replay_model.specs.Rows.{frames_of}
 use Rattle.replay_model.specs.declared.ends.End.{End}
 use Rattle.replay_model.specs.declared.ends.End.TheVariants as ends
 use Rattle.replay_model.specs.declared.ends.Fault.TheVariants.{Peer, Frame}
 use Rattle.replay_model.specs.declared.ends.Refusal.{Refusal}
-use Rattle.replay_model.proofs.Fronts.{starts_trans}
+use Rattle.plain_lists.proofs.FrontLemmas.{IsFront_trans}
 use Rattle.replay_model.proofs.FrameRows.{Begun, begun}
 use Rattle.replay_model.proofs.Lines.{Outcome, Ended, HasPut, MovedAll, moved_all, put_by_more}
 use Rattle.replay_model.proofs.Pulling.{Flows, Brings, brings, carries}
@@ -51,8 +52,8 @@ pub all_put : (side : Side) (steps : List Step) (pair : Pair) (done more : List 
 all_put Near steps pair done more lines put = ap (put_by_all Near) lines ∙ put_by_more Near done more ∙ ap (λ (l : List ℕ). l ++ put_by_all Near more) (sym put.near)
 all_put Far steps pair done more lines put = ap (put_by_all Far) lines ∙ put_by_more Far done more ∙ ap (λ (l : List ℕ). l ++ put_by_all Far more) (sym put.far)
 
-cut_all : (side : Side) (steps : List Step) (pair : Pair) (more : List ℕ) → puts side steps ≡ (half_of side pair).put ++ more → Starts (cut (half_of side pair).put) (cut (puts side steps))
-cut_all side steps pair more is = subst (λ (l : List ℕ). Starts (cut (half_of side pair).put) (cut l)) (sym is) (cut_more (half_of side pair).put more)
+cut_all : (side : Side) (steps : List Step) (pair : Pair) (more : List ℕ) → puts side steps ≡ (half_of side pair).put ++ more → IsFront (cut (half_of side pair).put) (cut (puts side steps))
+cut_all side steps pair more is = subst (λ (l : List ℕ). IsFront (cut (half_of side pair).put) (cut l)) (sym is) (cut_more (half_of side pair).put more)
 
 pub near_made_whole : (pair : Pair) → Kept pair → AreMessages (made_by Near pair.near)
 near_made_whole pair it = made_whole Near pair.near (held_whole Near pair.near it.near)
@@ -66,8 +67,8 @@ ended_holds steps pair end it =
     record {
       near_passes = rest.near.passes;
       far_passes = rest.far.passes;
-      near_took = starts_trans rest.near.took (cut_all Near steps pair (put_by_all Near it.more) (all_put Near steps pair it.done it.more it.lines it.put));
-      far_took = starts_trans rest.far.took (cut_all Far steps pair (put_by_all Far it.more) (all_put Far steps pair it.done it.more it.lines it.put));
+      near_took = IsFront_trans rest.near.took (cut_all Near steps pair (put_by_all Near it.more) (all_put Near steps pair it.done it.more it.lines it.put));
+      far_took = IsFront_trans rest.far.took (cut_all Far steps pair (put_by_all Far it.more) (all_put Far steps pair it.done it.more it.lines it.put));
       up = carries Near Far pair.near pair.far rest.up (near_made_whole pair rest);
       down = carries Far Near pair.far pair.near rest.down (far_made_whole pair rest);
     }
@@ -105,7 +106,7 @@ holds_all steps pair near far still all = record {
 
 next_refused : (steps : List Step) (side : Side) (pair : Pair) (cause : Refusal) (more : List ℕ) → puts side steps ≡ (half_of side pair).put ++ more → NextIs side (half_of side pair) cause → NextRefused steps side (half_of side pair) cause
 next_refused steps side pair cause more is it =
-    let later : Starts (cut (half_of side pair).put) (cut (puts side steps)) = cut_all side steps pair more is in
+    let later : IsFront (cut (half_of side pair).put) (cut (puts side steps)) = cut_all side steps pair more is in
     record {
       message = it.message;
       rest = it.rest ++ later.rest;

@@ -12,7 +12,7 @@ use Rattle.wp_outside.specs.declared.kinds.Side.TheVariants.{Near, Far}
 use Rattle.wp_outside.specs.declared.kinds.Direction.TheVariants.{Up, Down}
 use Rattle.replay_model.specs.Halves.{Half, Pair, other, heard_way, taken_by, given_by, made_by}
 use Rattle.wl_tables.specs.Ways.{own_way}
-use Rattle.replay_model.specs.Headline.{Starts}
+use Rattle.plain_lists.specs.Fronts.{IsFront}
 use Rattle.replay_model.specs.Moves.{Move, Put, Take, Connect, ConnectIfMade, Push, Pull, Moves, Takes, or_size, taking}
 use Rattle.replay_model.specs.Passing.{Passage, pass_all}
 use Rattle.replay_model.specs.Rows.{whole_in}
@@ -74,9 +74,9 @@ abbrev pub take_order : Side → Half → ℕ → List (Way × List ℕ)
 take_order side half upto = (taking side half upto).order
 
 -- more bytes have the same messages in front
-more_on_wire : (side : Side) (half : Half) (a b : ℕ) → Took side half → half.taken ≤ a → a ≤ b → Starts (next_on_wire side half a) (next_on_wire side half b)
+more_on_wire : (side : Side) (half : Half) (a b : ℕ) → Took side half → half.taken ≤ a → a ≤ b → IsFront (next_on_wire side half a) (next_on_wire side half b)
 more_on_wire side half a b it ahead le =
-    let later : Starts (cut (take a half.put)) (cut (take b half.put)) = cut_fronts a b half.put le in
+    let later : IsFront (cut (take a half.put)) (cut (take b half.put)) = cut_fronts a b half.put le in
     record {
       rest = later.rest;
       is = append_cancel_left (taken_by side half) (next_on_wire side half a ++ later.rest) (next_on_wire side half b)
@@ -92,7 +92,7 @@ stuck_at half a b fault le met =
 take_stays_by : (side : Side) (half : Half) (a b : ℕ) (cause : Refusal) (told : Option Refusal) (fault : Option WireFault) → Took side half → half.taken ≤ a → a ≤ b
     → (taking side half a).refused ≡ told → cut_fault (take a half.put) ≡ fault → or_size told fault ≡ Some cause → (take_refused side half b ≡ Some cause) × (take_order side half b ≡ take_order side half a)
 take_stays_by side half a b cause (Some first) fault it ahead le is met named =
-    let more : Starts (next_on_wire side half a) (next_on_wire side half b) = more_on_wire side half a b it ahead le in
+    let more : IsFront (next_on_wire side half a) (next_on_wire side half b) = more_on_wire side half a b it ahead le in
     let same : taking side half b ≡ taking side half a =
     ap (pass_all (own_way side) half.order) (sym more.is) ∙ refused_stays (own_way side) (next_on_wire side half a) more.rest half.order first is in
     (ap (λ (p : Passage). or_size p.refused (cut_fault (take b half.put))) same ∙ ap (λ (t : Option Refusal). or_size t (cut_fault (take b half.put))) is ∙ named, ap (λ (p : Passage). p.order) same)
@@ -124,9 +124,9 @@ two_takes side most old a b refused told it p q =
 
 -- ---- bytes are pulled
 
-more_in_frames : (reader : Side) (from to : Half) (a b : ℕ) → Flows (other reader) reader from to → to.pulled ≤ a → a ≤ b → Starts (next_in_frames reader from to a) (next_in_frames reader from to b)
+more_in_frames : (reader : Side) (from to : Half) (a b : ℕ) → Flows (other reader) reader from to → to.pulled ≤ a → a ≤ b → IsFront (next_in_frames reader from to a) (next_in_frames reader from to b)
 more_in_frames reader from to a b it ahead le =
-    let later : Starts (whole_in (made_by (other reader) from) a) (whole_in (made_by (other reader) from) b) = whole_grows (made_by (other reader) from) a b le in
+    let later : IsFront (whole_in (made_by (other reader) from) a) (whole_in (made_by (other reader) from) b) = whole_grows (made_by (other reader) from) a b le in
     record {
       rest = later.rest;
       is = append_cancel_left (given_by reader to) (next_in_frames reader from to a ++ later.rest) (next_in_frames reader from to b)
@@ -142,7 +142,7 @@ pull_order reader from to upto = (heard_by reader from to upto).order
 
 pull_stays : (reader : Side) (from to : Half) → Flows (other reader) reader from to → Stays (pull_refused reader from to) (pull_order reader from to) to.pulled
 pull_stays reader from to it a b cause ahead le is =
-    let more : Starts (next_in_frames reader from to a) (next_in_frames reader from to b) = more_in_frames reader from to a b it ahead le in
+    let more : IsFront (next_in_frames reader from to a) (next_in_frames reader from to b) = more_in_frames reader from to a b it ahead le in
     let same : heard_by reader from to b ≡ heard_by reader from to a =
     ap (pass_all (heard_way reader) to.order) (sym more.is) ∙ refused_stays (heard_way reader) (next_in_frames reader from to a) more.rest to.order cause is in
     (ap (λ (p : Passage). p.refused) same ∙ is, ap (λ (p : Passage). p.order) same)

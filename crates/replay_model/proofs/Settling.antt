@@ -16,7 +16,7 @@ use Rattle.replay_model.specs.Rows.{frames_of}
 use Rattle.replay_model.specs.Runs.{round, Rounds}
 use Rattle.replay_model.specs.declared.ends.Fault.TheVariants.{Peer, Frame}
 use Rattle.replay_model.specs.declared.ends.Refusal.{Refusal}
-use Rattle.replay_model.proofs.Fronts.{starts_both}
+use Rattle.plain_lists.proofs.FrontLemmas.{IsFront_both}
 use Rattle.replay_model.proofs.ManyMoves.{came_quiet, came_round}
 use Rattle.replay_model.proofs.Options.{not_both, made_of_none}
 use Rattle.replay_model.proofs.Standing.{Stands, HalfGrew, Grew, grew_refl, grew_trans}
@@ -46,11 +46,11 @@ pub record SamePair (a b : Pair) : Type 0 where
 
 same_half : (a b : Half) → HalfGrew a b → HalfGrew b a → SameHalf a b
 same_half a b p q = record {
-  put = starts_both p.put q.put;
+  put = IsFront_both p.put q.put;
   taken = le_antisymm p.taken q.taken;
   pushed = le_antisymm p.pushed q.pushed;
   pulled = le_antisymm p.pulled q.pulled;
-  order = starts_both p.order q.order;
+  order = IsFront_both p.order q.order;
 }
 
 same_link : (a b : Bool) → (a ≡ true → b ≡ true) → (b ≡ true → a ≡ true) → a ≡ b

@@ -7,7 +7,8 @@ use Rattle.wp_outside.specs.declared.kinds.Side.{Side}
 use Rattle.wp_outside.specs.declared.kinds.Side.TheVariants.{Near, Far}
 use Rattle.replay_model.specs.Halves.{Half, heard_way, of_way, taken_by, given_by, made_by}
 use Rattle.wl_tables.specs.Ways.{own_way}
-use Rattle.replay_model.specs.Headline.{Starts, Passes}
+use Rattle.plain_lists.specs.Fronts.{IsFront}
+use Rattle.replay_model.specs.Headline.{Passes}
 use Rattle.replay_model.specs.Passing.{objects_after}
 use Rattle.replay_model.proofs.Ways.{tagged, requests_added, events_added, requests_stay, events_stay, visible_more, visible_stays, AreMessages, whole_visible}
 
@@ -46,10 +47,10 @@ given_added side old new more is = ap (of_way (heard_way side)) is ∙ heard_add
 pub taken_stays : (side : Side) (old new : Half) (more : List (List ℕ)) → PassedHeard side old new more → taken_by side new ≡ taken_by side old
 taken_stays side old new more is = ap (of_way (own_way side)) is ∙ own_stays side old.order more
 
-pub made_grows : (side : Side) (old new : Half) (more : List (List ℕ)) → Passes old.order → PassedOwn side old new more → Starts (made_by side old) (made_by side new)
+pub made_grows : (side : Side) (old new : Half) (more : List (List ℕ)) → Passes old.order → PassedOwn side old new more → IsFront (made_by side old) (made_by side new)
 made_grows Near old new more passes is = record { rest = more; is = sym (taken_added Near old new more is) }
 made_grows Far old new more passes is =
-    subst (λ (order : List (Way × List ℕ)). Starts (visible first_state old.order) (visible first_state order)) (sym is)
+    subst (λ (order : List (Way × List ℕ)). IsFront (visible first_state old.order) (visible first_state order)) (sym is)
     (visible_more old.order (tagged Event more) (objects_after old.order) passes.tracked)
 
 pub made_stays : (side : Side) (old new : Half) (more : List (List ℕ)) → Passes old.order → PassedHeard side old new more → made_by side new ≡ made_by side old

@@ -8,11 +8,12 @@ use Rattle.std.proofs.Common.{◌≡◌, ℕ, ◌≤◌, ◌⊎◌, true, List, 
 use Rattle.wp_outside.specs.declared.kinds.Side.{Side}
 use Rattle.wp_outside.specs.declared.kinds.Side.TheVariants.{Near, Far}
 use Rattle.replay_model.specs.Halves.{Half, Pair, other, half_of}
-use Rattle.replay_model.specs.Headline.{Starts, FrameRefused}
+use Rattle.plain_lists.specs.Fronts.{IsFront}
+use Rattle.replay_model.specs.Headline.{FrameRefused}
 use Rattle.replay_model.specs.declared.ends.Fault.{Fault}
 use Rattle.replay_model.specs.declared.ends.Fault.TheVariants.{Peer, Frame}
 use Rattle.replay_model.specs.declared.ends.Refusal.{Refusal}
-use Rattle.replay_model.proofs.Fronts.{starts_refl, starts_trans}
+use Rattle.plain_lists.proofs.FrontLemmas.{IsFront_self, IsFront_trans}
 use Rattle.replay_model.proofs.Pulling.{Flows, Brings}
 use Rattle.replay_model.proofs.Wires.{Held, Took, NextIs, SizeIs}
 
@@ -48,11 +49,11 @@ After (Some (Frame side cause)) pair = FrameFell side cause pair
 -- ---- nothing is taken back
 
 pub record HalfGrew (old new : Half) : Type 0 where
-  pub put : Starts old.put new.put
+  pub put : IsFront old.put new.put
   pub taken : old.taken ≤ new.taken
   pub pushed : old.pushed ≤ new.pushed
   pub pulled : old.pulled ≤ new.pulled
-  pub order : Starts old.order new.order
+  pub order : IsFront old.order new.order
 
 pub record Grew (old new : Pair) : Type 0 where
   pub near : HalfGrew old.near new.near
@@ -60,15 +61,15 @@ pub record Grew (old new : Pair) : Type 0 where
   pub linked : old.connected ≡ true → new.connected ≡ true
 
 pub half_grew_refl : (half : Half) → HalfGrew half half
-half_grew_refl half = record { put = starts_refl half.put; taken = le_refl half.taken; pushed = le_refl half.pushed; pulled = le_refl half.pulled; order = starts_refl half.order }
+half_grew_refl half = record { put = IsFront_self half.put; taken = le_refl half.taken; pushed = le_refl half.pushed; pulled = le_refl half.pulled; order = IsFront_self half.order }
 
 half_grew_trans : (a b c : Half) → HalfGrew a b → HalfGrew b c → HalfGrew a c
 half_grew_trans a b c p q = record {
-  put = starts_trans p.put q.put;
+  put = IsFront_trans p.put q.put;
   taken = le_trans p.taken q.taken;
   pushed = le_trans p.pushed q.pushed;
   pulled = le_trans p.pulled q.pulled;
-  order = starts_trans p.order q.order;
+  order = IsFront_trans p.order q.order;
 }
 
 pub grew_refl : (pair : Pair) → Grew pair pair

@@ -12,7 +12,7 @@ use Rattle.wl_objects.specs.Registry.{ObjectsState, RegistryGlobal, first_state,
 use Rattle.wl_objects.proofs.Shown.{visible_goes_on}
 use Rattle.wl_objects.proofs.WholeShown.{shown_is_whole}
 use Rattle.replay_model.specs.Halves.{if_way, of_way}
-use Rattle.replay_model.specs.Headline.{Starts}
+use Rattle.plain_lists.specs.Fronts.{IsFront}
 
 -- messages, each with its way
 abbrev pub tagged : Way → List (List ℕ) → List (Way × List ℕ)
@@ -53,7 +53,7 @@ events_stay order more = of_way_append Event order (tagged Request more) ∙ ap 
 
 -- ---- what is shown
 
-pub visible_more : (order more : List (Way × List ℕ)) (objects : Tracked) → track first_objects order ≡ Ok objects → Starts (visible first_state order) (visible first_state (order ++ more))
+pub visible_more : (order more : List (Way × List ℕ)) (objects : Tracked) → track first_objects order ≡ Ok objects → IsFront (visible first_state order) (visible first_state (order ++ more))
 visible_more order more objects passed =
     record { rest = visible (state_after first_state order) more; is = sym (visible_goes_on first_state objects order more passed) }
 

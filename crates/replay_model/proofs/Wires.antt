@@ -14,26 +14,27 @@ use Rattle.wl_wire.proofs.CuttingLaws.{cut-nothing, cut-goes_on, cut-joins, cut-
 use Rattle.wp_outside.specs.declared.kinds.Side.{Side}
 use Rattle.replay_model.specs.Halves.{Half, taken_by}
 use Rattle.wl_tables.specs.Ways.{own_way}
-use Rattle.replay_model.specs.Headline.{Starts, Passes}
+use Rattle.plain_lists.specs.Fronts.{IsFront}
+use Rattle.replay_model.specs.Headline.{Passes}
 use Rattle.replay_model.specs.Moves.{or_size, taking, Takes, with_put}
 use Rattle.replay_model.specs.Passing.{refusal}
 use Rattle.replay_model.specs.declared.ends.Refusal.{Refusal}
 use Rattle.replay_model.specs.declared.ends.Refusal.TheVariants.{Object}
-use Rattle.replay_model.proofs.Fronts.{starts_same, starts_trans, starts_drop}
+use Rattle.plain_lists.proofs.FrontLemmas.{IsFront_same, IsFront_trans, IsFront_drop}
 use Rattle.replay_model.proofs.Passages.{Comes, Passed, passed}
 use Rattle.replay_model.proofs.Sides.{PassedOwn, PassedHeard, taken_added, taken_stays}
 use Rattle.replay_model.proofs.Ways.{AreMessages, whole_front}
 
 -- ---- how bytes are cut
 
-pub cut_more : (front more : List ℕ) → Starts (cut front) (cut (front ++ more))
+pub cut_more : (front more : List ℕ) → IsFront (cut front) (cut (front ++ more))
 cut_more front more = record { rest = cut (cut_rest front ++ more); is = sym (cut-goes_on front more).0 }
 
-pub cut_front : (n : ℕ) (bytes : List ℕ) → Starts (cut (take n bytes)) (cut bytes)
-cut_front n bytes = subst (λ (all : List ℕ). Starts (cut (take n bytes)) (cut all)) (take-append-drop n bytes) (cut_more (take n bytes) (drop n bytes))
+pub cut_front : (n : ℕ) (bytes : List ℕ) → IsFront (cut (take n bytes)) (cut bytes)
+cut_front n bytes = subst (λ (all : List ℕ). IsFront (cut (take n bytes)) (cut all)) (take-append-drop n bytes) (cut_more (take n bytes) (drop n bytes))
 
-pub cut_fronts : (m n : ℕ) (bytes : List ℕ) → m ≤ n → Starts (cut (take m bytes)) (cut (take n bytes))
-cut_fronts m n bytes le = subst (λ (few : List ℕ). Starts (cut few) (cut (take n bytes))) (take-take m n bytes le) (cut_front m (take n bytes))
+pub cut_fronts : (m n : ℕ) (bytes : List ℕ) → m ≤ n → IsFront (cut (take m bytes)) (cut (take n bytes))
+cut_fronts m n bytes le = subst (λ (few : List ℕ). IsFront (cut few) (cut (take n bytes))) (take-take m n bytes le) (cut_front m (take n bytes))
 
 -- a size at fault stays, and nothing is cut behind it
 pub record Stuck (front bytes : List ℕ) (fault : WireFault) : Type 0 where
@@ -67,7 +68,7 @@ cut_nothing =
 -- what a proxy passed is a front of what its peer put on the wire
 pub record Held (side : Side) (half : Half) : Type 0 where
   pub passes : Passes half.order
-  pub took : Starts (taken_by side half) (cut half.put)
+  pub took : IsFront (taken_by side half) (cut half.put)
 
 -- it has passed all messages among the bytes that it took, and no size in them is at fault
 pub record Took (side : Side) (half : Half) : Type 0 where
@@ -77,7 +78,7 @@ pub record Took (side : Side) (half : Half) : Type 0 where
   pub within : half.taken ≤ length half.put
 
 pub held : (side : Side) (half : Half) → Took side half → Held side half
-held side half it = record { passes = it.passes; took = starts_trans (starts_same (taken_by side half) (cut (take half.taken half.put)) it.taken) (cut_front half.taken half.put) }
+held side half it = record { passes = it.passes; took = IsFront_trans (IsFront_same (taken_by side half) (cut (take half.taken half.put)) it.taken) (cut_front half.taken half.put) }
 
 pub held_whole : (side : Side) (half : Half) → Held side half → AreMessages (taken_by side half)
 held_whole side half it = whole_front (taken_by side half) it.took.rest (subst AreMessages (sym it.took.is) (cut_whole half.put))
@@ -121,7 +122,7 @@ next_on_wire side half upto = drop (length (taken_by side half)) (cut (take upto
 
 pub on_wire : (side : Side) (old : Half) (upto : ℕ) → Took side old → old.taken ≤ upto → taken_by side old ++ next_on_wire side old upto ≡ cut (take upto old.put)
 on_wire side old upto it ahead =
-    starts_drop (starts_trans (starts_same (taken_by side old) (cut (take old.taken old.put)) it.taken) (cut_fronts old.taken upto old.put ahead))
+    IsFront_drop (IsFront_trans (IsFront_same (taken_by side old) (cut (take old.taken old.put)) it.taken) (cut_fronts old.taken upto old.put ahead))
 
 -- what is cut of the first bytes, where this is what came of it
 take_comes : (side : Side) (old new : Half) (more : List (List ℕ)) (refused : Option Refusal) (fault : Option WireFault)
@@ -143,7 +144,7 @@ take_comes side old new more None (Some fault) wire put within order passes come
       named = refl;
     })
 take_comes side old new more (Some cause) fault wire put within order passes comes met =
-    let later : Starts (cut (take new.taken old.put)) (cut old.put) = cut_front new.taken old.put in
+    let later : IsFront (cut (take new.taken old.put)) (cut old.put) = cut_front new.taken old.put in
     inl (record {
       message = comes.0;
       rest = comes.1.0 ++ later.rest;
@@ -157,19 +158,19 @@ take_comes side old new more (Some cause) fault wire put within order passes com
 
 some_of_wire : (side : Side) (old new : Half) (more : List (List ℕ)) (refused : Option Refusal)
     → taken_by side old ++ next_on_wire side old new.taken ≡ cut (take new.taken old.put) → new.put ≡ old.put
-    → PassedOwn side old new more → Comes (own_way side) (next_on_wire side old new.taken) more new.order refused → Starts (taken_by side new) (cut new.put)
+    → PassedOwn side old new more → Comes (own_way side) (next_on_wire side old new.taken) more new.order refused → IsFront (taken_by side new) (cut new.put)
 some_of_wire side old new more None wire put order comes =
-    let later : Starts (cut (take new.taken old.put)) (cut old.put) = cut_front new.taken old.put in
+    let later : IsFront (cut (take new.taken old.put)) (cut old.put) = cut_front new.taken old.put in
     record {
       rest = later.rest;
       is = ap (λ (l : List (List ℕ)). l ++ later.rest) (taken_added side old new more order ∙ ap (λ (l : List (List ℕ)). taken_by side old ++ l) (sym comes) ∙ wire) ∙ later.is ∙ ap cut (sym put);
     }
 some_of_wire side old new more (Some cause) wire put order comes =
-    let front : Starts (taken_by side old ++ more) (cut (take new.taken old.put)) = record {
+    let front : IsFront (taken_by side old ++ more) (cut (take new.taken old.put)) = record {
       rest = comes.0 ∷ comes.1.0;
       is = append_assoc (taken_by side old) more (comes.0 ∷ comes.1.0) ∙ ap (λ (l : List (List ℕ)). taken_by side old ++ l) (sym comes.1.1) ∙ wire;
     } in
-    subst₂ (λ (a b : List (List ℕ)). Starts a b) (sym (taken_added side old new more order)) (ap cut (sym put)) (starts_trans front (cut_front new.taken old.put))
+    subst₂ (λ (a b : List (List ℕ)). IsFront a b) (sym (taken_added side old new more order)) (ap cut (sym put)) (IsFront_trans front (cut_front new.taken old.put))
 
 take_upto : (side : Side) (old : Half) (upto : ℕ) → Took side old → old.taken ≤ upto → upto ≤ length old.put → AfterTake side old (upto_half side old upto) (or_size (taking side old upto).refused (cut_fault (take upto old.put)))
 take_upto side old upto it ahead within =

@@ -1,6 +1,7 @@
 -- What is claimed of a replay, in the words of the two streams of Wayland messages: each peer receives a front of what the other put on its wire, each message once and in order, and all of it where the replay drained.
 use Rattle.std.specs.Prelude.{◌≡◌, ℕ, ◌≤◌, List, ◌∷◌, ◌++◌, None, Some, Ok, length, take, ◌⊎◌}
 use Rattle.std.specs.List.{AllByRecursion}
+use Rattle.plain_lists.specs.Fronts.{IsFront}
 use Rattle.transfer_frames.specs.Laws.{NoFrame}
 use Rattle.wl_tables.specs.declared.way.Way.{Way}
 use Rattle.wl_wire.specs.Wire.{IsMessage, cut, cut_fault}
@@ -24,11 +25,6 @@ use Rattle.replay_model.specs.declared.ends.Fault.TheVariants.{Peer, Frame}
 use Rattle.replay_model.specs.declared.ends.Refusal.{Refusal}
 use Rattle.replay_model.specs.declared.ends.Refusal.TheVariants.{Object}
 
--- a list is the front of another
-pub record Starts {X : Type 0} (front whole : List X) : Type 0 where
-  pub rest : List X
-  pub is : front ++ rest ≡ whole
-
 -- tracking follows these messages from the first on, and none is refused
 pub record Passes (order : List (Way × List ℕ)) : Type 0 where
   pub tracked : track first_objects order ≡ Ok (objects_after order)
@@ -36,7 +32,7 @@ pub record Passes (order : List (Way × List ℕ)) : Type 0 where
 
 -- What holds of one direction, from the proxy that writes to the one that reads: what the reader gave to its peer is a front of what the writer made, and no byte is read that was not written.
 pub record Carries (writer reader : Half) (made given : List (List ℕ)) : Type 0 where
-  pub front : Starts given made
+  pub front : IsFront given made
   pub pulled : reader.pulled ≤ writer.pushed
   pub pushed : writer.pushed ≤ length (frames_of made)
   pub whole : AllByRecursion IsMessage made
@@ -47,8 +43,8 @@ pub record Holds (steps : List Step) (pair : Pair) : Type 0 where
   pub near_passes : Passes pair.near.order
   pub far_passes : Passes pair.far.order
   -- what a proxy took is a front of the messages that its peer's lines put on its wire
-  pub near_took : Starts (taken_by Near pair.near) (cut (puts Near steps))
-  pub far_took : Starts (taken_by Far pair.far) (cut (puts Far steps))
+  pub near_took : IsFront (taken_by Near pair.near) (cut (puts Near steps))
+  pub far_took : IsFront (taken_by Far pair.far) (cut (puts Far steps))
   -- the compositor received a front of what the near proxy took
   pub up : Carries pair.near pair.far (taken_by Near pair.near) (given_by Far pair.far)
   -- the application received a front of what is shown of the events that the far proxy took

@@ -19,6 +19,7 @@ use Rattle.script_lang.specs.declared.causes.ScriptCause.{ScriptCause}
 use Rattle.script_lang.specs.declared.causes.ScriptCause.TheVariants.{NotBuilt}
 use Rattle.script_lang.specs.declared.causes.ScriptRead.{ScriptRead}
 use Rattle.script_lang.specs.declared.causes.ScriptRead.TheVariants.{Fault, Lines, Memory}
+use Rattle.script_lang.specs.declared.limits.TheConstants.{MOST_LINES}
 use Rattle.script_lang.specs.declared.steps.Step.{Step}
 use Rattle.script_lang.specs.declared.steps.StepKind.{StepKind}
 use Rattle.script_lang.proofs.LineLaws.{IsTold, line_told}
@@ -159,27 +160,27 @@ module _ (visible : ReadIsVisible) where
       one_tells names line text texts (line_of names text) _ refl (line_told visible names text) (steps_tell (names_after names (line_of names text)) (line + 1) texts)
 
 -- lines that are few enough are read, and others are too many
-few_lines : (texts : List (List ℕ)) → length texts ≤ 200000 → steps_of_lines texts ≡ steps_from no_names 1 texts
-few_lines texts few = let test : nat_lt 200000 (length texts) ≡ false = grind (arith, nat_tests) in rw test refl
+few_lines : (texts : List (List ℕ)) → length texts ≤ MOST_LINES → steps_of_lines texts ≡ steps_from no_names 1 texts
+few_lines texts few = let test : nat_lt MOST_LINES (length texts) ≡ false = grind (arith, nat_tests) in rw test refl
 
-many_lines : (texts : List (List ℕ)) → 200000 < length texts → steps_of_lines texts ≡ Err Lines
-many_lines texts many = let test : nat_lt 200000 (length texts) ≡ true = grind (arith, nat_tests) in rw test refl
+many_lines : (texts : List (List ℕ)) → MOST_LINES < length texts → steps_of_lines texts ≡ Err Lines
+many_lines texts many = let test : nat_lt MOST_LINES (length texts) ≡ true = grind (arith, nat_tests) in rw test refl
 
 -- what all lines of a script come to
 abbrev ScriptTells : List (List ℕ) → Result (List Step) ScriptRead → Type 0
-ScriptTells texts (Ok steps) = (length texts ≤ 200000) × StepsTell no_names 1 texts (Ok steps)
-ScriptTells texts (Err (Fault at cause)) = (length texts ≤ 200000) × FaultFrom no_names 1 texts at cause
-ScriptTells texts (Err Lines) = 200000 < length texts
+ScriptTells texts (Ok steps) = (length texts ≤ MOST_LINES) × StepsTell no_names 1 texts (Ok steps)
+ScriptTells texts (Err (Fault at cause)) = (length texts ≤ MOST_LINES) × FaultFrom no_names 1 texts at cause
+ScriptTells texts (Err Lines) = MOST_LINES < length texts
 ScriptTells texts (Err Memory) = ⊥
 
-few_tell : (texts : List (List ℕ)) (told : Result (List Step) ScriptRead) → length texts ≤ 200000 → StepsTell no_names 1 texts told → ScriptTells texts told
+few_tell : (texts : List (List ℕ)) (told : Result (List Step) ScriptRead) → length texts ≤ MOST_LINES → StepsTell no_names 1 texts told → ScriptTells texts told
 few_tell texts (Ok steps) few tells = (few, tells)
 few_tell texts (Err (Fault at cause)) few tells = (few, tells)
 few_tell texts (Err Lines) few tells = absurd tells
 few_tell texts (Err Memory) few tells = tells
 
 -- the lines up to the first that is none, and what stands behind them
-module _ (texts before further : List (List ℕ)) (text : List ℕ) (parts : texts ≡ before ++ text ∷ further) (few : length texts ≤ 200000) where
+module _ (texts before further : List (List ℕ)) (text : List ℕ) (parts : texts ≡ before ++ text ∷ further) (few : length texts ≤ MOST_LINES) where
   long : length texts ≡ length before + suc (length further)
   long = ap length parts ∙ length-append before (text ∷ further)
 
@@ -203,7 +204,7 @@ module _ (texts before further : List (List ℕ)) (text : List ℕ) (parts : tex
       ∙ ap (λ it. then_lines it (and_then place (line_of names text) others)) script
       ∙ ap (λ it. behind_steps steps (and_then place it others)) none
 
-is_first_fault : (texts : List (List ℕ)) (line : ℕ) (cause : ScriptCause) → length texts ≤ 200000 → FaultFrom no_names 1 texts line cause → IsFirstFault texts line cause
+is_first_fault : (texts : List (List ℕ)) (line : ℕ) (cause : ScriptCause) → length texts ≤ MOST_LINES → FaultFrom no_names 1 texts line cause → IsFirstFault texts line cause
 is_first_fault texts line cause few is =
     let place : 1 + length is.before ≡ line = sym is.number in
     record {
@@ -230,7 +231,7 @@ all_asked : (texts : List (List ℕ)) (steps : List Step) → AllByRecursion (As
 all_asked texts [] all = tt
 all_asked texts (it ∷ steps) all = (record { text = all.0.text; stands = all.0.stands; asks = all.0.asks }, all_asked texts steps all.1)
 
-too_many : (texts : List (List ℕ)) (told : Result (List Step) ScriptRead) → told ≡ Err Lines → ScriptTells texts told → 200000 < length texts
+too_many : (texts : List (List ℕ)) (told : Result (List Step) ScriptRead) → told ≡ Err Lines → ScriptTells texts told → MOST_LINES < length texts
 too_many texts (Ok steps) is tells = absurd (cc is)
 too_many texts (Err (Fault at cause)) is tells = absurd (cc is)
 too_many texts (Err Lines) is tells = tells
@@ -241,7 +242,7 @@ module _ (visible : ReadIsVisible) where
   script_tells texts = ⊎_elim
       (λ many. subst (ScriptTells texts) (sym (many_lines texts many)) many)
       (λ few. subst (ScriptTells texts) (sym (few_lines texts few)) (few_tell texts (steps_from no_names 1 texts) few (steps_tell visible no_names 1 texts)))
-      (cases_lt 200000 (length texts))
+      (cases_lt MOST_LINES (length texts))
 
   pub one_step_each : OneStepEach
   unfolding steps_of

@@ -9,8 +9,9 @@ use Rattle.wl_text.specs.TextLaws.{ReadIsVisible}
 use Rattle.script_lang.specs.Grammar.{line_of, named, unless_fault}
 use Rattle.script_lang.specs.Laws.{AskedIsVisible}
 use Rattle.script_lang.specs.Lines.{asked, asked_by, is_skipped}
-use Rattle.script_lang.specs.Names.{Names, Owned, naming, fault_by, fault_of, grow_fault, fill_fault, shut_fault, unless, thing_of, can_grow, most}
+use Rattle.script_lang.specs.Names.{Names, Owned, naming, fault_by, fault_of, grow_fault, fill_fault, shut_fault, unless, thing_of, can_grow}
 use Rattle.script_lang.specs.Pieces.{front, behind}
+use Rattle.script_lang.specs.declared.limits.TheConstants.{MOST_OWNED}
 use Rattle.script_lang.specs.declared.causes.ScriptCause.{ScriptCause}
 use Rattle.script_lang.specs.declared.causes.ScriptCause.TheVariants.{Text, Number, Name, NotBuilt}
 use Rattle.script_lang.specs.declared.steps.StepKind.{StepKind}
@@ -46,7 +47,7 @@ shut_tested (Some Pipe) = λ h. cc h
 shut_tested None = λ h. cc h
 
 fault_tested : (owned : Owned) (what : StepKind) → NameTested (fault_of owned what)
-fault_tested owned (step.File peer number size) = unless_tested (nat_le (owned.total + size) most) Number _ (λ h. cc h) (named_unless (is_none (thing_of owned number)))
+fault_tested owned (step.File peer number size) = unless_tested (nat_le (owned.total + size) MOST_OWNED) Number _ (λ h. cc h) (named_unless (is_none (thing_of owned number)))
 fault_tested owned (step.Grow peer number size) = grow_tested owned size (thing_of owned number)
 fault_tested owned (step.Fill peer number first count value) = fill_tested (first + count) (thing_of owned number)
 fault_tested owned (step.Pipe peer number) = named_unless (is_none (thing_of owned number))

@@ -7,6 +7,7 @@ use Rattle.script_lang.specs.Pieces.{lines}
 use Rattle.script_lang.specs.declared.causes.ScriptCause.{ScriptCause}
 use Rattle.script_lang.specs.declared.causes.ScriptRead.{ScriptRead}
 use Rattle.script_lang.specs.declared.causes.ScriptRead.TheVariants.{Fault, Lines, Memory}
+use Rattle.script_lang.specs.declared.limits.TheConstants.{MOST_LINES}
 use Rattle.script_lang.specs.declared.script.Script.{Script}
 use Rattle.script_lang.specs.declared.steps.Step.{Step}
 use Rattle.script_lang.specs.declared.steps.StepKind.{StepKind}
@@ -53,7 +54,7 @@ steps_from names line (text ∷ texts) =
 -- the steps of the lines of a script, or why they are none
 abbrev pub steps_of_lines : List (List ℕ) → Result (List Step) ScriptRead
 steps_of_lines texts =
-    if nat_lt 200000 (length texts) then Err Lines else steps_from no_names 1 texts
+    if nat_lt MOST_LINES (length texts) then Err Lines else steps_from no_names 1 texts
 
 -- the steps of a script, or why it is none
 unfoldable pub steps_of : List ℕ → Result (List Step) ScriptRead

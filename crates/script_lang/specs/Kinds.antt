@@ -11,6 +11,7 @@ use Rattle.wp_outside.specs.declared.kinds.Direction.TheVariants.{Up, Down}
 use Rattle.wp_outside.specs.declared.kinds.Side.{Side}
 use Rattle.wp_outside.specs.declared.kinds.Side.TheVariants.{Near, Far}
 use Rattle.script_lang.specs.Numbers.{is_number, number_value, is_negative, unsigned, is_signed}
+use Rattle.script_lang.specs.declared.limits.TheConstants.{LARGEST_FILE}
 use Rattle.script_lang.specs.Numbers.{signed_value}
 
 -- A kind of field: whether a field has its form, whether its value is in range, and the value.
@@ -54,7 +55,7 @@ word = number 0 18446744073709551615
 abbrev pub size : Kind ℕ
 size = record {
   form = is_number;
-  range = λ field. between 64 67108864 (number_value field) && (number_value field % 64 == 0);
+  range = λ field. between 64 LARGEST_FILE (number_value field) && (number_value field % 64 == 0);
   value = number_value;
 }
 

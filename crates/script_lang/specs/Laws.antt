@@ -11,6 +11,7 @@ use Rattle.script_lang.specs.Puts.{is_stop, puts}
 use Rattle.script_lang.specs.declared.causes.ScriptCause.{ScriptCause}
 use Rattle.script_lang.specs.declared.causes.ScriptCause.TheVariants.{NotBuilt}
 use Rattle.script_lang.specs.declared.causes.ScriptRead.TheVariants.{Fault, Lines, Memory}
+use Rattle.script_lang.specs.declared.limits.TheConstants.{MOST_LINES}
 use Rattle.script_lang.specs.declared.steps.Step.{Step}
 use Rattle.script_lang.specs.declared.steps.StepKind.{StepKind}
 
@@ -38,7 +39,7 @@ OneStepEach =
 
 -- the lines before this one are a script, and with it they are none, for this cause
 pub record IsFirstFault (texts : List (List ℕ)) (line : ℕ) (cause : ScriptCause) : Type 0 where
-  pub few : length texts ≤ 200000
+  pub few : length texts ≤ MOST_LINES
   pub before : List (List ℕ)
   pub text : List ℕ
   pub behind : List (List ℕ)
@@ -56,7 +57,7 @@ FirstFault =
 
 -- too many lines go before all else
 abbrev pub TooManyLines : Type 0
-TooManyLines = (bytes : List ℕ) → (steps_of bytes ≡ Err Lines) ↔ (200000 < length (lines bytes))
+TooManyLines = (bytes : List ℕ) → (steps_of bytes ≡ Err Lines) ↔ (MOST_LINES < length (lines bytes))
 
 -- a line that asks for something is visible ASCII
 abbrev pub AskedIsVisible : Type 0

@@ -8,6 +8,7 @@ use Rattle.std.specs.Map.{lookup}
 use Rattle.std.specs.Ordering.{int_cmp}
 use Rattle.wp_outside.specs.declared.kinds.Side.{Side}
 use Rattle.wp_outside.specs.declared.kinds.Side.TheVariants.{Near, Far}
+use Rattle.script_lang.specs.declared.limits.TheConstants.{MOST_OWNED}
 use Rattle.script_lang.specs.declared.causes.ScriptCause.{ScriptCause}
 use Rattle.script_lang.specs.declared.causes.ScriptCause.TheVariants.{Number, Name}
 use Rattle.script_lang.specs.declared.steps.StepKind.{StepKind}
@@ -35,10 +36,6 @@ no_names = record { near = nothing; far = nothing }
 unfoldable pub thing_of : Owned → ℤ → Option Thing
 thing_of owned number = lookup (is_at (int_cmp number)) owned.things
 
--- a peer's files have at most this size together
-abbrev pub most : ℕ
-most = 268435456
-
 -- what is wrong where a test fails, and else what is wrong behind it
 abbrev pub unless : Bool → ScriptCause → Option ScriptCause → Option ScriptCause
 unless true cause further = further
@@ -47,12 +44,12 @@ unless false cause further = Some cause
 -- a new file is within the sum of sizes, and its number is new
 abbrev pub file_fault : Owned → ℕ → Option Thing → Option ScriptCause
 file_fault owned size found =
-    unless (nat_le (owned.total + size) most) Number (unless (is_none found) Name None)
+    unless (nat_le (owned.total + size) MOST_OWNED) Number (unless (is_none found) Name None)
 
 -- a file grows to a greater size, within the sum of sizes, and has at most 64 segments
 abbrev pub can_grow : Owned → ℕ → ℕ → ℕ → Bool
 can_grow owned old segments size =
-    nat_lt old size && nat_lt segments 64 && nat_le (owned.total - old + size) most
+    nat_lt old size && nat_lt segments 64 && nat_le (owned.total - old + size) MOST_OWNED
 
 abbrev pub grow_fault : Owned → ℕ → Option Thing → Option ScriptCause
 grow_fault owned size (Some (File old segments)) =

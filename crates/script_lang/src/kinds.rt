@@ -7,6 +7,7 @@ ghost use Rattle.script_lang.specs.Rows.{ranged, read};
 
 use crate::causes::ScriptCause;
 use crate::digits::{decode, decode_into};
+use crate::limits::LARGEST_FILE;
 use crate::numbers::{is_negative, number_value, unsigned};
 use std::alloc::{AllocError, Global};
 use wl_wire::Bytes;
@@ -39,7 +40,7 @@ pub fn word(field: &[u8]) -> Result<u64, ScriptCause>
 pub fn size(field: &[u8]) -> Result<u32, ScriptCause>
     ensures { result ≡ ranged size field.now }
 {
-    match number(field, 64, 67_108_864) {
+    match number(field, 64, LARGEST_FILE) {
         Ok(size) if size % 64 == 0 => Ok(size),
         _ => Err(ScriptCause::Number),
     }

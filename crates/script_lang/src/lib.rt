@@ -6,6 +6,7 @@ mod digits;
 mod faults;
 mod kinds;
 mod laws;
+mod limits;
 mod lines;
 mod link_lines;
 mod names;

@@ -6,16 +6,15 @@ ghost use Rattle.script_lang.specs.Names.{nothing, thing_of, fault_of, after, fi
 ghost use Rattle.script_lang.specs.Names.{grow_fault, fill_fault, shut_fault, can_grow, grown};
 ghost use Rattle.script_lang.specs.Names.{with_thing, unless};
 ghost use Rattle.script_lang.specs.declared.causes.ScriptCause.TheVariants.{Name};
+ghost use Rattle.script_lang.specs.declared.limits.TheConstants.{MOST_OWNED};
 
 use crate::causes::ScriptCause;
+use crate::limits::MOST_OWNED;
 use crate::steps::StepKind;
 use crate::things::Thing;
 use std::alloc::{AllocError, Global};
 use std::collections::BTreeMap;
 use std::marker::Model;
-
-/// The greatest sum of the sizes of a peer's files, in bytes.
-const MOST_OWNED: u32 = 268_435_456;
 
 /// The files and pipes of one peer, by their numbers, and the sum of the sizes of its files.
 #[derive(Drop)]
@@ -27,12 +26,13 @@ pub struct PeerNames {
 impl Model for PeerNames {
     ghost use Rattle.std.specs.Prelude.{◌≤◌};
     ghost use Rattle.script_lang.specs.Names.{Owned};
+    ghost use Rattle.script_lang.specs.declared.limits.TheConstants.{MOST_OWNED};
 
     ghost Value = { Owned };
 
     ghost view = { λ names. record { things = names.things.entries; total = names.total } };
 
-    ghost invariant = { λ names. names.total ≤ 268435456 };
+    ghost invariant = { λ names. names.total ≤ MOST_OWNED };
 }
 
 impl PeerNames {
@@ -170,7 +170,7 @@ impl PeerNames {
 
     /// Keeps what a number stands for from here on, and the new sum of sizes.
     fn put(&mut self, number: i32, thing: Thing, total: u32) -> Result<(), AllocError>
-        requires { total ≤ 268435456 }
+        requires { total ≤ MOST_OWNED }
         ensures { OnOk result (self.new ≡ with_thing self.old number thing total) }
     {
         let _ = self.things.insert(number, thing)?;

@@ -6,18 +6,17 @@ ghost use Rattle.script_lang.specs.Grammar.{names_after};
 ghost use Rattle.script_lang.specs.Names.{no_names};
 ghost use Rattle.script_lang.specs.Pieces.{lines};
 ghost use Rattle.script_lang.specs.Reading.{Read, Added};
+ghost use Rattle.script_lang.specs.declared.limits.TheConstants.{MOST_LINES};
 
 use crate::causes::ScriptRead;
 use crate::faults::LineFault;
+use crate::limits::MOST_LINES;
 use crate::lines::{asked, is_skipped};
 use crate::peers::Peers;
 use crate::pieces::{count_lines, next_line};
 use crate::script::Script;
 use crate::steps::{Step, StepKind, StepList};
 use std::alloc::Global;
-
-/// The most lines that a script may have.
-const MOST_LINES: usize = 200_000;
 
 /// Reads a script.
 ///
@@ -36,7 +35,7 @@ pub fn read_script(alloc: Global, bytes: &[u8]) -> Result<Script, ScriptRead>
 
 /// Reads the lines of a script, of which there are no more than there may be.
 fn read_lines(alloc: Global, text: &[u8]) -> Result<Script, ScriptRead>
-    requires { length (lines text.now) ≤ 200000 }
+    requires { length (lines text.now) ≤ MOST_LINES }
     ensures { ReadsScript result (steps_from no_names 1 (lines text.now)) }
 {
     let mut peers = Peers::new(alloc);

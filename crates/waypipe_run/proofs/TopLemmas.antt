@@ -38,9 +38,9 @@ use Rattle.waypipe_run.specs.TopLaws.{Due, DueOfBuilt, DueOfRead, RunsTo, OneIsD
 use Rattle.waypipe_run.specs.Words.{Asks, IsReplay, IsFrames, IsCommand}
 use Rattle.waypipe_run.specs.declared.words.Command.{Command}
 use Rattle.waypipe_run.specs.declared.words.Command.TheVariants.{Replay, Frames}
-use Rattle.waypipe_run.specs.declared.causes.Limit.{Limit}
-use Rattle.waypipe_run.specs.declared.causes.Limit.TheVariants as limits
-use Rattle.waypipe_run.specs.declared.causes.PeerCause.{PeerCause}
+use Rattle.half_model.specs.declared.causes.Limit.{Limit}
+use Rattle.half_model.specs.declared.causes.Limit.TheVariants as limits
+use Rattle.half_model.specs.declared.causes.PeerCause.{PeerCause}
 use Rattle.waypipe_run.specs.declared.status.Reader.{Reader}
 use Rattle.waypipe_run.specs.declared.status.Reader.TheVariants as reader
 use Rattle.waypipe_run.specs.declared.status.Status.{Status}

@@ -12,12 +12,12 @@ use Rattle.transfer_frames.specs.declared.cause.FrameCause.{FrameCause}
 use Rattle.transfer_frames.specs.declared.cause.FrameCause.TheVariants as frame
 use Rattle.script_lang.specs.declared.causes.ScriptCause.{ScriptCause}
 use Rattle.script_lang.specs.declared.causes.ScriptCause.TheVariants as script
-use Rattle.waypipe_run.specs.declared.causes.PeerCause.{PeerCause}
-use Rattle.waypipe_run.specs.declared.causes.PeerCause.TheVariants as peer
+use Rattle.half_model.specs.declared.causes.PeerCause.{PeerCause}
+use Rattle.half_model.specs.declared.causes.PeerCause.TheVariants as peer
 use Rattle.waypipe_run.specs.declared.status.Reader.{Reader}
 use Rattle.waypipe_run.specs.declared.status.Reader.TheVariants as reader
-use Rattle.waypipe_run.specs.declared.causes.Limit.{Limit}
-use Rattle.waypipe_run.specs.declared.causes.Limit.TheVariants as limit
+use Rattle.half_model.specs.declared.causes.Limit.{Limit}
+use Rattle.half_model.specs.declared.causes.Limit.TheVariants as limit
 
 abbrev pub script_name : ScriptCause → List ℕ
 script_name script.Text = codes "Text"

@@ -23,8 +23,8 @@ use Rattle.replay_model.specs.declared.ends.Refusal.{Refusal}
 use Rattle.replay_model.specs.declared.ends.Refusal.TheVariants as refusals
 use Rattle.waypipe_run.specs.Report.{Counted}
 use Rattle.waypipe_run.specs.Texts.{drained_text, stopped_text, peer_text, frame_text}
-use Rattle.waypipe_run.specs.declared.causes.PeerCause.{PeerCause}
-use Rattle.waypipe_run.specs.declared.causes.PeerCause.TheVariants as peer
+use Rattle.half_model.specs.declared.causes.PeerCause.{PeerCause}
+use Rattle.half_model.specs.declared.causes.PeerCause.TheVariants as peer
 use Rattle.waypipe_run.specs.declared.status.Reader.{Reader}
 use Rattle.waypipe_run.specs.declared.status.Reader.TheVariants as reader
 use Rattle.waypipe_run.specs.declared.status.Status.{Status}

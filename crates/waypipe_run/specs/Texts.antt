@@ -2,8 +2,8 @@
 use Rattle.std.specs.Prelude.{ℕ, List, [], ◌∷◌, ◌++◌, codes, decimal}
 use Rattle.wp_outside.specs.declared.kinds.Side.{Side}
 use Rattle.script_lang.specs.declared.causes.ScriptCause.{ScriptCause}
-use Rattle.waypipe_run.specs.declared.causes.PeerCause.{PeerCause}
-use Rattle.waypipe_run.specs.declared.causes.Limit.{Limit}
+use Rattle.half_model.specs.declared.causes.PeerCause.{PeerCause}
+use Rattle.half_model.specs.declared.causes.Limit.{Limit}
 use Rattle.transfer_frames.specs.declared.cause.FrameCause.{FrameCause}
 use Rattle.waypipe_run.specs.declared.status.Reader.{Reader}
 use Rattle.waypipe_run.specs.Names.{script_name, peer_name, limit_name, side_name, reader_name}

@@ -27,7 +27,7 @@ use Rattle.waypipe_run.specs.Report.{report}
 use Rattle.waypipe_run.specs.Texts.{usage_text, read_failed_text, script_text, limit_text}
 use Rattle.waypipe_run.specs.Texts.{frame_text, rest_text}
 use Rattle.waypipe_run.specs.Words.{IsReplay, IsFrames, IsCommand, Asks}
-use Rattle.waypipe_run.specs.declared.causes.Limit.TheVariants.{Input, Lines}
+use Rattle.half_model.specs.declared.causes.Limit.TheVariants.{Input, Lines}
 use Rattle.waypipe_run.specs.declared.status.Reader.TheVariants as reader
 use Rattle.waypipe_run.specs.declared.status.Status.{Status}
 use Rattle.waypipe_run.specs.declared.status.Status.TheVariants as status

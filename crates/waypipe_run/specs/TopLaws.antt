@@ -28,7 +28,7 @@ use Rattle.waypipe_run.specs.Moving.{MOST_INPUT}
 use Rattle.waypipe_run.specs.Outcomes.{Ran, status_of}
 use Rattle.waypipe_run.specs.Top.{Outside, Output, Outcome, IsScript}
 use Rattle.waypipe_run.specs.Words.{IsReplay, IsFrames, IsCommand}
-use Rattle.waypipe_run.specs.declared.causes.Limit.TheVariants.{Input, Lines}
+use Rattle.half_model.specs.declared.causes.Limit.TheVariants.{Input, Lines}
 use Rattle.waypipe_run.specs.declared.status.Reader.TheVariants as reader
 use Rattle.waypipe_run.specs.declared.status.Status.{Status}
 use Rattle.waypipe_run.specs.declared.status.Status.TheVariants as status

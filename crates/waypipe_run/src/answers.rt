@@ -8,7 +8,6 @@ ghost use Rattle.waypipe_run.specs.Parts.{RepliesToBytes, IsRun};
 ghost use Rattle.waypipe_run.specs.Top.{Replies, MayReplay, outside};
 ghost use Rattle.waypipe_run.specs.Words.{Asks};
 
-use crate::causes::Limit;
 use crate::listings::answer_stream;
 use crate::reading::{ReadFault, read_all};
 use crate::replies::{Reply, alone, limited};
@@ -16,6 +15,7 @@ use crate::scripts::answer_text;
 use crate::status::Status;
 use crate::texts::{read_failed_text, usage_text};
 use crate::words::{Command, command_of};
+use half_model::Limit;
 use std::alloc::{AllocError, Global};
 use wl_wire::Bytes;
 use wp_outside::{LinkStore, Source};

@@ -5,10 +5,10 @@ ghost use Rattle.waypipe_run.specs.Endings.{EndsReport, peer_of};
 ghost use Rattle.waypipe_run.specs.Outcomes.{peer_cause, frame_cause, reader_of};
 ghost use Rattle.waypipe_run.specs.Texts.{peer_text, frame_text};
 
-use crate::causes::PeerCause;
 use crate::replies::{Reply, ended};
 use crate::status::{Reader, Status};
 use crate::texts::{drained_text, frame_text, peer_text, stopped_text};
+use half_model::PeerCause;
 use pair_replay::{PeerReport, Replayed};
 use replay_model::{End, Fault, Refusal};
 use std::alloc::{AllocError, Global};

@@ -4,7 +4,6 @@
 
 mod answers;
 mod built;
-mod causes;
 mod endings;
 mod laws;
 mod listings;

@@ -4,8 +4,8 @@ ghost use Rattle.waypipe_run.specs.Names.{script_name, wire_name, object_name, p
 ghost use Rattle.waypipe_run.specs.Names.{limit_name, side_name, reader_name, frame_name};
 ghost use Rattle.waypipe_run.specs.Names.{frame_detail};
 
-use crate::causes::{Limit, PeerCause};
 use crate::status::Reader;
+use half_model::{Limit, PeerCause};
 use script_lang::ScriptCause;
 use std::alloc::{AllocError, Global};
 use transfer_frames::FrameCause;

@@ -3,9 +3,9 @@
 ghost use Rattle.std.specs.Prelude.{◌≡◌, ◌++◌, IfOk};
 ghost use Rattle.waypipe_run.specs.Texts.{limit_text};
 
-use crate::causes::Limit;
 use crate::status::Status;
 use crate::texts::limit_text;
+use half_model::Limit;
 use std::alloc::{AllocError, Global};
 use wl_wire::Text;
 

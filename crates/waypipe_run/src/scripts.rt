@@ -14,12 +14,12 @@ ghost use Rattle.waypipe_run.specs.Texts.{script_text};
 ghost use Rattle.waypipe_run.specs.Top.{IsScript, RepliesToText, Reported};
 
 use crate::built::first_unbuilt;
-use crate::causes::Limit;
 use crate::endings::end_report;
 use crate::replies::{Reply, alone, limited};
 use crate::report::report;
 use crate::status::Status;
 use crate::texts::script_text;
+use half_model::Limit;
 use pair_replay::{Replayed, replay};
 use script_lang::{Script, ScriptCause, ScriptRead, read_script};
 use std::alloc::{AllocError, Global};

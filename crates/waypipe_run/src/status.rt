@@ -2,7 +2,7 @@
 ghost use Rattle.std.specs.Prelude.{◌≡◌};
 ghost use Rattle.waypipe_run.specs.Codes.{code_of};
 
-use crate::causes::{Limit, PeerCause};
+use half_model::{Limit, PeerCause};
 use script_lang::ScriptCause;
 use transfer_frames::FrameCause;
 use wp_outside::{Direction, Side};

@@ -2,9 +2,9 @@
 mod both_ways;
 mod listings;
 
-use crate::causes::{Limit, PeerCause};
 use crate::plain::run_plain;
 use crate::status::Status;
+use half_model::{Limit, PeerCause};
 use script_lang::ScriptCause;
 use std::alloc::{AllocError, Global};
 use std::test::Fail;

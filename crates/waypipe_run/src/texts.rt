@@ -4,11 +4,11 @@ ghost use Rattle.waypipe_run.specs.Texts.{usage_text, read_failed_text, drained_
 ghost use Rattle.waypipe_run.specs.Texts.{script_text, peer_text, limit_text, frame_text};
 ghost use Rattle.waypipe_run.specs.Texts.{rest_text};
 
-use crate::causes::{Limit, PeerCause};
 use crate::names::{
     frame_detail, frame_name, limit_name, peer_name, reader_name, script_name, side_name,
 };
 use crate::status::Reader;
+use half_model::{Limit, PeerCause};
 use script_lang::ScriptCause;
 use std::alloc::{AllocError, Global};
 use transfer_frames::FrameCause;

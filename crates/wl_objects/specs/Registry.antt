@@ -127,8 +127,8 @@ view state message = view_event state.hidden message (event_in state.tracked mes
 
 -- goes on after one message, with what is shown of it if it is an event
 abbrev pub shown_then :
-    Result Admission ObjectFault → Way → List RegistryGlobal → List ℕ → (ObjectsState → List (List ℕ))
-    → List (List ℕ)
+    Result Admission ObjectFault → Way → List RegistryGlobal → List ℕ
+    → (ObjectsState → List (List ℕ)) → List (List ℕ)
 shown_then (Err fault) way hidden message next = []
 shown_then (Ok done) Request hidden message next =
     next (record { tracked = done.objects; hidden = hidden })

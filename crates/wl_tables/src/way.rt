@@ -15,8 +15,8 @@ pub enum Way {
 }
 
 impl Way {
-    /// The way of the messages that the peer beside a side sends: the application, beside the near one, sends requests, and the
-    /// compositor events.
+    /// The way of the messages that the peer beside a side sends: the application, beside the near
+    /// one, sends requests, and the compositor events.
     pub fn of_peer(peer: Side) -> Way
         ensures { result ≡ own_way peer }
     {

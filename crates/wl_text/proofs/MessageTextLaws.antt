@@ -10,6 +10,7 @@ use Rattle.std.proofs.lemmas.Bool.Decides.{nat_tests}
 use Rattle.std.proofs.lemmas.List.{drop_at, length-take-le}
 use Rattle.std.proofs.lemmas.List.Elements.{All-drop}
 use Rattle.std.specs.List.{list_all}
+use Rattle.wl_wire.specs.declared.message.TheConstants.{LONGEST_MESSAGE}
 use Rattle.wl_wire.specs.declared.arguments.Arg.{Arg}
 use Rattle.wl_wire.specs.Arguments.{Spells}
 use Rattle.wl_wire.specs.ArgLaws.{FitSlots, zero_padded}
@@ -83,13 +84,13 @@ module _ (opcodes : OpcodeTellsName) (names : InterfaceTellsName) where
       let head = head_complete opcodes names way interface (object_of message) (opcode_of message) row arguments it.prints.stands (word_at-small message 0 it.bytes) in
       let last = last_complete form args handles good.0 good.1 named in
       let long = args-long form.slots body args spelled.1 in
-      let short : 8 + length (args_bytes args) ≤ 65532 = omega (arith, long, length-drop 8 message, it.whole.is_bounded, it.whole.has_header) in
-      let fits : nat_le (8 + length (args_bytes args)) 65532 ≡ true = grind (arith, nat_tests) in
+      let short : 8 + length (args_bytes args) ≤ LONGEST_MESSAGE = omega (arith, long, length-drop 8 message, it.whole.is_bounded, it.whole.has_header) in
+      let fits : nat_le (8 + length (args_bytes args)) LONGEST_MESSAGE ≡ true = grind (arith, nat_tests) in
       let again = read-is-built form.slots message args it.whole it.bytes spelled.1 in
       rw (text, head, last, fits) (ap (λ bytes. Some (record { message = bytes; interface = interface; handles = handles })) again)
 
   -- the message of what was read
-  read_text : (way : Way) (line : List ℕ) (head : Head) (said : TextArgs) (rest : List ℕ) → IsHead way line rest head → AreSaid [] head.signature.slots rest (codes ")") said → 8 + length (args_bytes said.args) ≤ 65532 → IsText way line (record { message = built head.object head.opcode said.args; interface = head.interface; handles = said.handles })
+  read_text : (way : Way) (line : List ℕ) (head : Head) (said : TextArgs) (rest : List ℕ) → IsHead way line rest head → AreSaid [] head.signature.slots rest (codes ")") said → 8 + length (args_bytes said.args) ≤ LONGEST_MESSAGE → IsText way line (record { message = built head.object head.opcode said.args; interface = head.interface; handles = said.handles })
   read_text way line head said rest is_head are_said short =
       let row : MessageRow = is_head.row in
       let form : SignatureForm = form_of row in
@@ -125,7 +126,7 @@ module _ (opcodes : OpcodeTellsName) (names : InterfaceTellsName) where
   read_is_text way line it told =
       let head = then_some (head_at way line) _ it told in
       let said = then_some (last_args_at head.0.0.signature head.0.1) _ it head.2 in
-      let chosen = if_some (nat_le (8 + length (args_bytes said.0.args)) 65532) _ it said.2 in
+      let chosen = if_some (nat_le (8 + length (args_bytes said.0.args)) LONGEST_MESSAGE) _ it said.2 in
       subst (IsText way line) chosen.1
       (read_text way line head.0.0 said.0 head.0.1 (head_sound opcodes names way line head.0.1 head.0.0 head.1) (last_sound head.0.0.signature head.0.1 said.0 said.1) (leb-true _ _ chosen.0))
 

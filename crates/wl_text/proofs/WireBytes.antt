@@ -4,6 +4,7 @@ use Rattle.std.proofs.lemmas.List.{drop_at}
 use Rattle.std.proofs.lemmas.List.Elements.{All-append, All-cons, All-nil, All-replicate}
 use Rattle.std.proofs.Math.Facts.{Fits-of_lt, sfits_to_z}
 use Rattle.std.specs.Int.{cast_unsigned}
+use Rattle.wl_wire.specs.declared.message.TheConstants.{LONGEST_MESSAGE}
 use Rattle.wl_wire.specs.declared.arguments.Arg.{Arg}
 use Rattle.wl_wire.specs.declared.arguments.Arg.TheVariants as arg
 use Rattle.wl_wire.specs.declared.signature.ArgKind.{ArgKind}
@@ -131,7 +132,7 @@ pub built_object : (object opcode : ℕ) (args : List Arg) → object < 2 ^ 32 �
 built_object object opcode args small =
     word_at-append (word_bytes object) _ 0 (omega (arith, length-word_bytes object)) ∙ word_at-word_bytes object small
 
-pub built_opcode : (object opcode : ℕ) (args : List Arg) → opcode < 2 ^ 16 → 8 + length (args_bytes args) ≤ 65532 → opcode_of (built object opcode args) ≡ opcode
+pub built_opcode : (object opcode : ℕ) (args : List Arg) → opcode < 2 ^ 16 → 8 + length (args_bytes args) ≤ LONGEST_MESSAGE → opcode_of (built object opcode args) ≡ opcode
 built_opcode object opcode args low bound =
     let second : ℕ = opcode + 2 ^ 16 * (8 + length (args_bytes args)) in
     let behind : drop 4 (built object opcode args) ≡ word_bytes second ++ args_bytes args =

@@ -13,6 +13,7 @@ use Rattle.wl_tables.specs.Ways.{is_event}
 use Rattle.wl_tables.specs.declared.interface.Interface.{Interface}
 use Rattle.wl_tables.specs.declared.way.Way.{Way}
 use Rattle.wl_wire.specs.declared.arguments.Arg.{Arg}
+use Rattle.wl_wire.specs.declared.message.TheConstants.{LONGEST_MESSAGE}
 use Rattle.wl_wire.specs.ArgFaults.{args_fault}
 use Rattle.wl_wire.specs.Building.{args_bytes, built}
 use Rattle.wl_wire.specs.Wire.{object_of, opcode_of}
@@ -96,7 +97,7 @@ head_at way line = do
 -- the message of these arguments, if it isn't too long
 unfoldable pub message_from : Head → TextArgs → Option TextMessage
 message_from head said =
-    if nat_le (8 + length (args_bytes said.args)) 65532
+    if nat_le (8 + length (args_bytes said.args)) LONGEST_MESSAGE
     then Some (record {
       message = built head.object head.opcode said.args;
       interface =

@@ -1,7 +1,7 @@
 //! Scripts in both directions: what each answers and writes.
 use super::{replay, replay_text};
-use crate::causes::PeerCause;
 use crate::status::{Reader, Status};
+use half_model::PeerCause;
 use script_lang::ScriptCause;
 use std::alloc::{AllocError, Global};
 use std::test::Fail;

@@ -1,7 +1,7 @@
 //! The command `frames`.
 use super::run;
-use crate::causes::Limit;
 use crate::status::{Reader, Status};
+use half_model::Limit;
 use std::alloc::{AllocError, Global};
 use std::test::Fail;
 use transfer_frames::FrameCause;
