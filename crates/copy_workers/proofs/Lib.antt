@@ -1,1 +1,9 @@
+pub mod Shuffles
+pub mod HandLists
+pub mod HandSteps
+pub mod NoticeSteps
 pub mod LawProofs
+pub mod ComeBackProofs
+pub mod InTurn
+pub mod Remainders
+pub mod Together

@@ -1,12 +1,16 @@
-//! Copies of live words by jobs, and plain loops of atomic loads.
+//! Copies of live words by jobs, in one thread and in several, and plain loops of atomic loads.
 
-ghost use Rattle.std.specs.Prelude.{◌≡◌, ◌≤◌, length, IfOk};
+ghost use Rattle.std.specs.Prelude.{◌≡◌, ◌≤◌, length, All, IfOk};
 ghost use Rattle.copy_workers.specs.Copies.{IsReady};
 
-use copy_workers::{CopyJob, WordList, copy_one};
+use copy_workers::{CopyJob, JobList, WordList, copy_all, copy_one};
 use pool_words::{Eye, new_pool};
 use std::alloc::{AllocError, Global};
 use std::sync::atomic::{AtomicU64, Ordering};
+use std::thread::Threads;
+
+// How many jobs several threads are given at once.
+const JOBS_AT_ONCE: u32 = 16;
 
 /// Copies all words of a pool so many times, each time after one write, and answers the sum of what
 /// the copies' receipts count.
@@ -24,6 +28,45 @@ pub fn sum_by_one(alloc: Global, words: u32, times: u32) -> Result<u64, AllocErr
         list = done.words;
     }
     Ok(sum)
+}
+
+/// Copies all words of a pool so many times in several threads, sixteen copies at once, and answers
+/// how many copies came back.
+pub fn count_by_all<R: Threads + Sync>(
+    rt: &R,
+    alloc: Global,
+    words: u32,
+    times: u32,
+) -> Result<u64, AllocError>
+    requires { (1 ≤ words) × (words ≤ 8388608) }
+{
+    let mut pen = new_pool(alloc, 1, words)?;
+    let mut eye = pen.note()?;
+    let mut lists = Vec::new(alloc);
+    for _ in 0..JOBS_AT_ONCE {
+        lists.push(words_of(alloc, words)?)?;
+    }
+    let mut back: u64 = 0;
+    for _ in 0..times / JOBS_AT_ONCE {
+        let jobs = jobs_of(alloc, &mut eye, lists)?;
+        lists = Vec::new(alloc);
+        for done in copy_all(rt, alloc, jobs)? {
+            back = back.wrapping_add(1);
+            lists.push(done.words)?;
+        }
+    }
+    Ok(back)
+}
+
+// A job for each of these lists.
+fn jobs_of(alloc: Global, eye: &mut Eye, lists: Vec<WordList>) -> Result<JobList, AllocError>
+    ensures { IfOk result (λ jobs. All IsReady jobs) }
+{
+    let mut jobs = JobList::new(alloc);
+    for list in lists {
+        jobs.push(job_within(eye, list)?)?;
+    }
+    Ok(jobs)
 }
 
 /// Loads as many atomic words by a plain loop so many times, each time after one store, and answers
@@ -75,4 +118,13 @@ pub fn job_of(eye: &mut Eye, id: u64, words: WordList) -> Result<CopyJob, AllocE
         first: 0,
         words,
     })
+}
+
+/// A job for a pool's words from the first on, for as many as the list and the pool have.
+pub fn job_within(eye: &mut Eye, mut words: WordList) -> Result<CopyJob, AllocError>
+    ensures ready { IfOk result IsReady }
+    ensures same { eye.new ≡ eye.old }
+{
+    words.truncate(eye.words() as usize);
+    job_of(eye, 0, words)
 }

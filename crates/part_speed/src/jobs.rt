@@ -3,13 +3,16 @@
 ghost use Rattle.std.specs.Prelude.{◌≤◌, ◌↔◌, IsTrue};
 
 use crate::commits::{Scatter, Sides, runs_of_commits, runs_of_scatter};
-use crate::copies::{sum_by_one, sum_of_atomics};
+use crate::copies::{count_by_all, sum_by_one, sum_of_atomics};
+use crate::crews::count_by_crew;
 use crate::link_frames::{bytes_in_ring, frames_accepted};
 use crate::mirrors::sum_of_fills;
 use crate::pipes::bytes_through;
 use crate::rids::{Choice, count_of_rids};
 use crate::words::{count_of_writes, sum_of_copies, sum_of_loads};
 use std::alloc::{AllocError, Global};
+use std::sync::Wait;
+use std::thread::Threads;
 
 // The greatest count of words of a pool.
 const MOST_WORDS: u32 = 8_388_608;
@@ -48,6 +51,14 @@ pub enum Way {
     Atomics,
     /// Copies of a pool's words by jobs, on one thread.
     One,
+    /// Copies of a pool's words by jobs, in several threads that come back in order.
+    All,
+    /// Copies of a pool's words by a crew of one worker.
+    CrewOfOne,
+    /// Copies of a pool's words by a crew of two workers.
+    CrewOfTwo,
+    /// Copies of a pool's words by a crew of four workers.
+    CrewOfFour,
 }
 
 impl Job {
@@ -105,14 +116,14 @@ impl Job {
 
     /// Does the work, and answers a sum over what came out; 0 where a size is none that the part
     /// takes.
-    pub fn sum(self, alloc: Global) -> Result<u64, AllocError> {
+    pub fn sum<R: Threads + Wait + Sync>(self, rt: &R, alloc: Global) -> Result<u64, AllocError> {
         match self {
             Job::Commits { image, times } => runs_of_commits(alloc, image, times),
             Job::Scatter(scatter) => runs_of_scatter(alloc, scatter),
             Job::Rids { choice, times } => count_of_rids(alloc, choice, times),
             Job::Words { way, words, times } => {
                 if is_pool(words) {
-                    way.sum(alloc, words, times)
+                    way.sum(rt, alloc, words, times)
                 } else {
                     Ok(0)
                 }
@@ -134,12 +145,22 @@ impl Way {
             "copies" => Some(Way::Copies),
             "atomics" => Some(Way::Atomics),
             "one" => Some(Way::One),
+            "all" => Some(Way::All),
+            "crew-1" => Some(Way::CrewOfOne),
+            "crew-2" => Some(Way::CrewOfTwo),
+            "crew-4" => Some(Way::CrewOfFour),
             _ => None,
         }
     }
 
     // Does the work on so many words.
-    fn sum(self, alloc: Global, words: u32, times: u32) -> Result<u64, AllocError>
+    fn sum<R: Threads + Wait + Sync>(
+        self,
+        rt: &R,
+        alloc: Global,
+        words: u32,
+        times: u32,
+    ) -> Result<u64, AllocError>
         requires { (1 ≤ words) × (words ≤ 8388608) }
     {
         match self {
@@ -148,6 +169,10 @@ impl Way {
             Way::Copies => sum_of_copies(alloc, words, times),
             Way::Atomics => sum_of_atomics(alloc, words, times),
             Way::One => sum_by_one(alloc, words, times),
+            Way::All => count_by_all(rt, alloc, words, times),
+            Way::CrewOfOne => count_by_crew(rt, alloc, 1, words, times),
+            Way::CrewOfTwo => count_by_crew(rt, alloc, 2, words, times),
+            Way::CrewOfFour => count_by_crew(rt, alloc, 4, words, times),
         }
     }
 }

@@ -4,6 +4,7 @@
 
 mod commits;
 mod copies;
+mod crews;
 mod jobs;
 mod link_frames;
 mod mirrors;
@@ -17,13 +18,13 @@ use std::io;
 // What a line may be.
 const WANTED: &str =
     "commits WIDTH HEIGHT TIMES, scatter WIDTH HEIGHT ACROSS DOWN COUNT, rids COUNT BITS TIMES, \
-    loads, writes, copies, atomics or one WORDS TIMES, fills, pieces or kept BYTES TIMES, or judged FRAMES TIMES";
+    loads, writes, copies, atomics, one, all, crew-1, crew-2 or crew-4 WORDS TIMES, fills, pieces or kept BYTES TIMES, or judged FRAMES TIMES";
 
 fn main(rt: HostRuntime) -> io::Result<()> {
     for line in rt.lines(rt.alloc()) {
         match Job::read(line?.as_str()) {
             Some(job) => {
-                let sum = job.sum(rt.alloc())?;
+                let sum = job.sum(&rt, rt.alloc())?;
                 println!(rt; "{sum}")?;
             }
             None => println!(rt; "{WANTED}")?,
