@@ -1,6 +1,6 @@
 //! Lines and dials as the crates above use them, through their traits.
 
-mod callers;
-mod lines;
-mod meetings;
-mod mishaps;
+mod parties;
+mod plays;
+mod streams;
+mod tables;
