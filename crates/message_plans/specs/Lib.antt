@@ -1,0 +1,4 @@
+pub mod Blocks
+pub mod Making
+pub mod Plans
+pub mod Telling

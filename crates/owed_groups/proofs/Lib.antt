@@ -1,0 +1,4 @@
+pub mod JobLemmas
+pub mod RunLemmas
+pub mod SlotLemmas
+pub mod WordLemmas

@@ -1,0 +1,5 @@
+pub mod StageLemmas
+pub mod GoesLemmas
+pub mod PlanLemmas
+pub mod PassLemmas
+pub mod TurnLemmas

@@ -1,0 +1,3 @@
+pub mod SendState
+pub mod Treating
+pub mod Stages

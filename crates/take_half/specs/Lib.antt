@@ -1,0 +1,4 @@
+pub mod Passages
+pub mod TakeState
+pub mod Accepting
+pub mod Receipts
