@@ -2,21 +2,16 @@
 """Measures single parts of the proxies with the small proved program part_speed: commits of a surface with ten
 rectangles of damage each, one commit with thousands that lie about in no order, tables of the other side's handles, in
 order and picked for their hash, loads, writes and copies of live words and fills of a mirror beside plain copies of as many words,
-pieces that go through a pipe, frames that a ring keeps and frames that counts judge. It is no part of the gate."""
-import os
-import subprocess
+copies of live words by several threads and by crews, pieces that go through a pipe, frames that a ring keeps and frames that
+counts judge; with half_trials the two halves; then two proxies back to back, and lines in memory. It is no part of the gate."""
+import functools
 
 import figures
+import lines
+import proxies
 
-CRATE = os.path.join(figures.ROOT, "crates/part_speed")
-
-
-def seconds(folder, *job):
-    """The least time of one job."""
-    path = os.path.join(folder, "job")
-    with open(path, "w") as out:
-        print(*job, file=out)
-    return figures.measure([os.path.join(CRATE, "out/part_speed")], path)[0]
+seconds = functools.partial(figures.job_seconds, "part_speed")
+half_seconds = functools.partial(figures.job_seconds, "half_trials")
 
 
 def table_seconds(folder, count, bits, rounds=20):
@@ -26,7 +21,8 @@ def table_seconds(folder, count, bits, rounds=20):
 
 
 def main():
-    subprocess.run(["rt", "run"], cwd=CRATE, stdin=subprocess.DEVNULL, capture_output=True, check=False)
+    for crate in ("part_speed", "half_trials"):
+        figures.build(crate)
     with figures.folder() as folder:
         times = 20_000
         hd = seconds(folder, "commits", 1920, 1080, times)
@@ -47,8 +43,12 @@ def main():
             writes = seconds(folder, "writes", words, rounds)
             print(f"{words:8} words: {words * rounds / writes / 1e6:6.0f} million writes per second")
         copies_by_jobs(folder)
+        copies_by_crews(folder)
         files_and_pipes(folder)
         frames_of_the_link(folder)
+        halves(folder)
+    proxies.main()
+    lines.main()
 
 
 def copies_by_jobs(folder):
@@ -57,6 +57,18 @@ def copies_by_jobs(folder):
         rounds = 500_000_000 // words
         jobs, loads = seconds(folder, "one", words, rounds), seconds(folder, "atomics", words, rounds)
         print(f"{words:8} words: {words * rounds / jobs / 1e6:6.0f} million words copied per second, {loads / jobs:.2f} of a plain loop's speed")
+
+
+def copies_by_crews(folder):
+    """Words that are copied by one thread, by several that come back in order, and by crews, beside plain copies. The
+    several are started anew for every sixteen jobs, so that these are few where jobs are small."""
+    for words in (8, 512, 131_072):
+        rounds = min(500_000_000 // words, 2_000_000) // 16 * 16
+        plain = seconds(folder, "copies", words, rounds) / rounds
+        for way in ("one", "all", "crew-1", "crew-2", "crew-4"):
+            times = min(rounds, 16_000) if way == "all" else rounds
+            taken = seconds(folder, way, words, times) / times
+            print(f"{words * 8:8} bytes: {words / taken / 1e6:6.0f} million words per second by {way:6}, {taken / plain:6.1f} times a plain copy's time")
 
 
 def files_and_pipes(folder):
@@ -80,4 +92,20 @@ def frames_of_the_link(folder):
     print(f"{frames * times / seconds(folder, 'judged', frames, times) / 1e6:.0f} million frames judged per second")
 
 
-main()
+def halves(folder):
+    """Small messages and whole images that become frames, each with its copy and its notes, and frames of whole images
+    that become what a peer is given, beside plain copies of as many bytes. The frames are made anew each time, which is
+    not counted."""
+    count, times = 1000, 1000
+    sent = half_seconds(folder, "messages", count, times)
+    print(f"      24 bytes: {count * times / sent / 1e6:6.2f} million messages per second become frames")
+    size, rounds = 640 * 480 * 4, 1000
+    plain = seconds(folder, "copies", size // 8, rounds)
+    made = half_seconds(folder, "pictures", 1, rounds)
+    print(f"{size:8} bytes: {size * rounds / made / 1e9:6.2f} GB of images per second become frames, {made / plain:.2f} times a plain copy's time")
+    given = half_seconds(folder, "images", size, rounds) - half_seconds(folder, "untaken", size, rounds)
+    print(f"{size:8} bytes: {size * rounds / given / 1e9:6.2f} GB of images per second are given, {given / plain:.2f} times a plain copy's time")
+
+
+if __name__ == "__main__":
+    main()

@@ -1,0 +1,11 @@
+pub mod Fronts
+pub mod Keeping
+pub mod Doing
+pub mod Hearing
+pub mod PastJobs
+pub mod Jobs
+pub mod Inside
+pub mod Treating
+pub mod Counting
+pub mod Making
+pub mod Offering
