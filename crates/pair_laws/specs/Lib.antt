@@ -1,0 +1,13 @@
+pub mod Pairs
+pub mod Auditing
+pub mod Differences
+pub mod Refusing
+pub mod Passing
+pub mod Received
+pub mod Rids
+pub mod Stood
+pub mod Everything
+pub mod Orders
+pub mod PipeRuns
+pub mod WrongPairs
+pub mod MetRows

@@ -1,0 +1,10 @@
+pub mod NoteRows
+pub mod Bridges
+pub mod Quietly
+pub mod Settling
+pub mod Looping
+pub mod Cutting
+pub mod GoodNotes
+pub mod Calling
+pub mod Giving
+pub mod Linking

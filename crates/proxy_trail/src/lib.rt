@@ -1,0 +1,10 @@
+//! One proxy of the pair with its records.
+#![tactic(auto)]
+
+mod pair;
+mod recording;
+mod trail;
+
+pub use pair::{PairEnd, PairList, PairRecord};
+pub use trail::Trail;
+pub use trail_records::{LineList, LineRecord, TrailRecord, WayList};

@@ -1,0 +1,5 @@
+use Rattle.trail_records.proofs.Weights.{new_weighed}
+use Rattle.trail_records.proofs.book.Book.new.Goals as goal
+
+pub invariant_of-result : goal.invariant_of-result
+invariant_of-result c = new_weighed c.args.side c.new.result c.new-2.result c.new-3.result c.new-4.result c.new.ensures c.new-2.ensures c.new-3.ensures c.new-4.ensures
