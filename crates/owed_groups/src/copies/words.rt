@@ -6,7 +6,13 @@ ghost use Rattle.owed_groups.specs.Slots.{words_from};
 
 use super::Copies;
 use crate::stage::WordPlace;
+use byteorder::{ByteOrder, LittleEndian};
 use std::alloc::AllocError;
+
+// The most words of a row, and their bytes.
+const ROW_WORDS: usize = 256;
+
+const ROW_BYTES: usize = 8 * ROW_WORDS;
 
 impl Copies {
     /// Puts the bytes of the next words behind others, and goes on behind these words.
@@ -55,13 +61,32 @@ fn append_some(
     append_all(out, words.split_at(from).1.split_at(count).0)
 }
 
-// Puts the bytes of words behind others.
-#[tactic(auto, unfolding(transfer_frames::specs::Numbers::long_bytes))]
+// Puts the bytes of words behind others, a row of words at a time.
 fn append_all(out: &mut Vec<u8>, words: &[u64]) -> Result<(), AllocError>
     ensures { OnOk result (out.new.items ≡ out.old.items ++ words_bytes words.now) }
 {
-    for word in words {
-        out.extend_from_slice(&word.to_le_bytes())?;
+    let mut room = [0; ROW_BYTES];
+    let mut left = words;
+    while left.len() > ROW_WORDS {
+        let (row, more) = left.split_at(ROW_WORDS);
+        append_row(out, row, &mut room)?;
+        left = more;
     }
-    Ok(())
+    append_row(out, left, &mut room)
+}
+
+// Puts the bytes of a row of words behind others, by way of an array, which is written over: many
+// bytes at once cost much less than eight at a time.
+#[tactic(auto, unfolding(transfer_frames::specs::Numbers::long_bytes))]
+fn append_row(
+    out: &mut Vec<u8>,
+    words: &[u64],
+    room: &mut [u8; ROW_BYTES],
+) -> Result<(), AllocError>
+    requires { length words.now ≤ 256 }
+    ensures { OnOk result (out.new.items ≡ out.old.items ++ words_bytes words.now) }
+{
+    let bytes = &mut room[..8 * words.len()];
+    LittleEndian::write_u64_into(words, bytes);
+    out.extend_from_slice(bytes)
 }
