@@ -6,3 +6,5 @@ pub mod NumberLemmas
 pub mod PieceLemmas
 pub mod ReadingLemmas
 pub mod RowLaws
+pub mod TrialLaws
+pub mod TrialTexts

@@ -10,3 +10,4 @@ pub mod Pieces
 pub mod Puts
 pub mod Reading
 pub mod Rows
+pub mod Trial

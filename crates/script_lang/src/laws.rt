@@ -2,7 +2,9 @@
 
 ghost use Rattle.script_lang.specs.Laws.{OneStepEach, FirstFault, TooManyLines, AskedIsVisible};
 ghost use Rattle.script_lang.specs.Laws.{OnlyTested, StopEnds};
+ghost use Rattle.script_lang.specs.Trial.{TrialIsScript};
 
+use wl_tables::{interface_tells_name, opcode_tells_name};
 use wl_text::text_is_visible;
 
 /// Each line that isn't skipped has its one step, in order, and no other step is there.
@@ -46,3 +48,11 @@ pub fn only_tested()
 pub fn stop_ends()
     ensures { StopEnds }
 {}
+
+/// The text of each trial is a script.
+pub fn trial_is_script()
+    ensures { TrialIsScript }
+{
+    opcode_tells_name();
+    interface_tells_name();
+}

@@ -7,6 +7,7 @@ mod causes;
 mod messages;
 mod names;
 mod steps;
+mod trial;
 mod whole;
 
 /// What reading a script answers, without its steps.
