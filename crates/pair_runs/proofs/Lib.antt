@@ -1,0 +1,15 @@
+pub mod Ends
+pub mod Composing
+pub mod Turning
+pub mod Rowing
+pub mod Calling
+pub mod Weights
+pub mod Falling
+pub mod Quieting
+pub mod Showing
+pub mod Keeping
+pub mod Wrongs
+pub mod Lines
+pub mod Tying
+pub mod Agreeing
+pub mod Failing

@@ -1,0 +1,15 @@
+pub mod Sides
+pub mod Working
+pub mod States
+pub mod Taking
+pub mod Loading
+pub mod Linking
+pub mod Kept
+pub mod Moves
+pub mod Runs
+pub mod WorkLaws
+pub mod Measure
+pub mod Quiet
+pub mod RunLaws
+pub mod WrongRuns
+pub mod Agreeing

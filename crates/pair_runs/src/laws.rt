@@ -1,0 +1,72 @@
+//! The laws of runs: functions that do nothing, and whose contract is the law.
+
+ghost use Rattle.pair_runs.specs.Agreeing.{MovesTie, RunsAgree};
+ghost use Rattle.pair_runs.specs.Measure.{RoundFalls};
+ghost use Rattle.pair_runs.specs.Quiet.{QuietIsDone};
+ghost use Rattle.pair_runs.specs.RunLaws.{RunsKeep, SettlesQuietly, DrainsQuietly};
+ghost use Rattle.pair_runs.specs.WorkLaws.{FedWorks, CameWorks, AsksWorks, UpIs, DownIs, LendsIs, SendsIs};
+ghost use Rattle.pair_runs.specs.WorkLaws.{WantsIs, NothingLent, KeptByCalls, FedFails, CameFails, AsksFails};
+ghost use Rattle.pair_runs.specs.WrongRuns.{SkipsBreak, ConnectsAgain, SkipsNumber, PushesLess};
+ghost use Rattle.pair_runs.specs.WrongRuns.{TakesFree, LoadsWhole};
+
+/// Each good call of a proxy with its records is what its move says: it takes an item of its peer,
+/// hears what comes on the connection, is asked to close, has a connection that comes up or goes
+/// down, lends bytes of its front and sends them.
+pub fn calls_work()
+    ensures fed { FedWorks }
+    ensures came { CameWorks }
+    ensures asks { AsksWorks }
+    ensures up { UpIs }
+    ensures down { DownIs }
+    ensures lends { LendsIs }
+    ensures sends { SendsIs }
+{}
+
+/// Each call that meets a fault is what its move leaves in part.
+pub fn calls_fail()
+    ensures fed { FedFails }
+    ensures came { CameFails }
+    ensures asks { AsksFails }
+{}
+
+/// Between two calls a proxy takes from its peer just where its side in a run does, lends nothing
+/// just where nothing is to be sent, and keeps its records as such a side does.
+pub fn calls_show()
+    ensures wants { WantsIs }
+    ensures nothing { NothingLent }
+    ensures kept { KeptByCalls }
+{}
+
+/// A round that changes something leaves less to move, and where one changes nothing, no byte of the
+/// line having been replaced, nothing is left to move.
+pub fn rounds_end()
+    ensures falls { RoundFalls }
+    ensures done { QuietIsDone }
+{}
+
+/// In each run the records of both sides are kept, and one that ends where nothing moved any more
+/// ends with a round that changes nothing.
+pub fn runs_keep()
+    ensures keep { RunsKeep }
+    ensures settles { SettlesQuietly }
+    ensures drains { DrainsQuietly }
+{}
+
+/// While no byte of the line is replaced both sides agree, and a run that ends where nothing moved
+/// any more has nothing left to move.
+pub fn runs_agree()
+    ensures moves { MovesTie }
+    ensures runs { RunsAgree }
+{}
+
+/// No run skips a break or the number of a connection, makes a connection while one is up, writes
+/// less than it is asked to while there is something to be sent, takes an item for nothing once all
+/// bytes asked for are taken, or loads more words than it is asked to.
+pub fn wrong_runs()
+    ensures skips_break { SkipsBreak }
+    ensures connects_again { ConnectsAgain }
+    ensures skips_number { SkipsNumber }
+    ensures pushes_less { PushesLess }
+    ensures takes_free { TakesFree }
+    ensures loads_whole { LoadsWhole }
+{}
