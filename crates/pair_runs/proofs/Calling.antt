@@ -58,7 +58,7 @@ pub record Ran (event : Event) (old new : TrailState) : Type 0 where
   pub row : Row (step event old.now) events last Rest
   pub is : (half : ℕ) → side_seen half new ≡ seen half last (grow_all events (step event old.now) (grown event old.now (closed old.book)))
 
-ran_by : (event : Event) (old new : TrailState) → RunsOn old → TrailCalls event (Ok tt) old new → Ran event old new
+pub ran_by : (event : Event) (old new : TrailState) → RunsOn old → TrailCalls event (Ok tt) old new → Ran event old new
 ran_by event old new r calls =
     let d : Done event old new = ok_done event old new r.goes_on calls in
     record {
@@ -73,7 +73,7 @@ may_work half event old new r =
     subst (λ (b : SideState). Works true (seen half (step event old.now) (grown event old.now (closed old.book))) b) (sym (r.is half))
     (row_works half (step event old.now) r.last (grown event old.now (closed old.book)) r.events r.row.0)
 
-quiet_work : (half : ℕ) (event : Event) (old new : TrailState) → hear (step event old.now) ≡ Rest → Ran event old new
+pub quiet_work : (half : ℕ) (event : Event) (old new : TrailState) → hear (step event old.now) ≡ Rest → Ran event old new
     → Works false (seen half (step event old.now) (grown event old.now (closed old.book))) (side_seen half new)
 quiet_work half event old new quiet r =
     subst (λ (b : SideState). Works false (seen half (step event old.now) (grown event old.now (closed old.book))) b) (sym (r.is half))
@@ -148,7 +148,7 @@ came_works half piece here old new r up calls =
     (may_work half (Came piece) old new (ran_by (Came piece) old new r calls))
 
 -- where nothing is due behind the event
-still_is : (half : ℕ) (event : Event) (old new : TrailState) → next (step event old.now) ≡ Rest → Ran event old new
+pub still_is : (half : ℕ) (event : Event) (old new : TrailState) → next (step event old.now) ≡ Rest → Ran event old new
     → side_seen half new ≡ seen half (step event old.now) (grown event old.now (closed old.book))
 still_is half event old new rest r =
     let none : r.events ≡ [] = none_after (step event old.now) r.last r.events rest r.row.0 in

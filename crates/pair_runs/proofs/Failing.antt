@@ -1,22 +1,29 @@
 -- What each call of a proxy with its records leaves in a run that meets a fault.
-use Rattle.std.proofs.Common.{◌≡◌, ℕ, List, [], ◌∷◌, ◌++◌, Bool, true, false, Option, Some, None, Result, Ok, Err, refl, sym, ap, subst, ◌∙◌, append_assoc, inl, inr, ◌⊎◌}
+use Rattle.std.proofs.Common.{◌≡◌, ℕ, List, [], ◌∷◌, ◌++◌, Bool, true, false, Option, Some, None, Result, Ok, Err, refl, sym, ap, subst, ◌∙◌, append_assoc, arith, inl, inr, ◌⊎◌}
 use Rattle.std.proofs.lemmas.List.{append-nil}
 use Rattle.plain_lists.specs.Fronts.{IsFront}
 use Rattle.wl_wire.specs.Wire.{joined, IsMessage}
+use Rattle.wp_outside.specs.declared.kinds.Side.{Side}
 use Rattle.half_model.specs.declared.items.PeerIn.{PeerIn}
 use Rattle.pair_model.specs.Steps.{Here}
 use Rattle.side_model.specs.declared.fault.ProxyFault.{ProxyFault}
-use Rattle.side_model.specs.Books.{Book, grown, grow_all, closed}
+use Rattle.side_model.specs.Books.{Book, grown, grow_all, closed, weight, MOST_WEIGHT}
 use Rattle.side_model.specs.Calls.{Part}
-use Rattle.side_model.specs.Events.{Event, Fed, Came, Asks}
+use Rattle.side_model.specs.declared.fault.ProxyFault.TheVariants as faults
+use Rattle.side_model.specs.declared.fault.ProxyFault.TheVariants.{Memory}
+use Rattle.side_model.specs.Events.{Event, Fed, Handed, Up, Came, Asks}
+use Rattle.side_model.specs.Records.{Law, IndexIs}
 use Rattle.side_model.specs.State.{Now}
 use Rattle.side_model.specs.Steps.{step}
-use Rattle.side_model.specs.Trails.{TrailState, step_all, FailsNow, FailsSo, HeavyAtOnce, HeavyThen, Failed, FailedAtOnce, NoMemory, StopsRecording, LacksMemory, Fails, RunsTrail, TrailAfter, TrailCalls, Begun}
+use Rattle.side_model.specs.Trails.{TrailState, step_all, FailsNow, FailsSo, HeavyAtOnce, HeavyThen, Failed, FailedAtOnce, NoMemory, StopsRecording, LacksMemory, Fails, RunsTrail, TrailAfter, TrailCalls, Begun, NotLent, TooHeavyFront, LendsAfter, Keeps}
 use Rattle.side_model.proofs.Parts.{part_at}
-use Rattle.side_model.proofs.TrailParts.{NotRun, ran}
-use Rattle.pair_runs.specs.Linking.{read}
+use Rattle.side_model.proofs.Calms.{up_rests}
+use Rattle.side_model.proofs.RowProofs.{none_after}
+use Rattle.side_model.proofs.TrailParts.{NotRun, ran, same_weight}
+use Rattle.pair_runs.specs.Linking.{read, RefusesPiece}
+use Rattle.pair_runs.specs.Moves.{LineInPart}
 use Rattle.pair_runs.specs.Sides.{SideState, fed, asked, seen, side_seen}
-use Rattle.pair_runs.specs.WorkLaws.{RunsOn, FailsInPart, FedFails, CameFails, AsksFails}
+use Rattle.pair_runs.specs.WorkLaws.{RunsOn, FailsInPart, FedFails, CameFails, AsksFails, HandedFails, UpFails, LendsFails, KeptByFault}
 use Rattle.pair_runs.specs.Working.{Works, WorksInPart}
 use Rattle.pair_runs.proofs.Calling.{fed_base, came_base, asks_base}
 use Rattle.pair_runs.proofs.Composing.{all_then, joined_then, grows_same, grows_then, may_hear}
@@ -136,3 +143,82 @@ asks_fails half reason fault old new r calls = elim (recorded half (Asks reason)
   | inl none ↦ nothing_part (asked (side_seen half old)) (side_seen half new) none
   | inr some ↦ subst (λ (a : SideState). WorksInPart a (side_seen half new)) (asks_base half reason old.now old.book old.now.kept.closing refl) some
 ]
+
+pub handed_fails : HandedFails
+unfolding step
+handed_fails half done fault old new r calls = elim (recorded half (Handed done) fault old new r calls) [
+  | inl none ↦ nothing_part (side_seen half old) (side_seen half new) none
+  | inr some ↦ record { took = some.took; messages = some.messages; bytes = some.bytes; trail = some.trail; order = some.order }
+]
+
+-- ---- a connection
+
+-- nothing is due behind a connection that comes up
+up_alone : (connection : ℕ) (old : TrailState) (t : Now) (events : List Event) → RunsOn old → old.now.live.here ≡ None → Part (step (Up connection) old.now) events t → events ≡ []
+up_alone connection old t events r up part = none_after (step (Up connection) old.now) t events (up_rests old.now connection up (r.keeps.runs r.goes_on).rests) part
+
+up_one : (half connection : ℕ) (old new : TrailState) → new.book ≡ grow_all (Up connection ∷ []) old.now (closed old.book) → LineInPart connection (side_seen half old) (side_seen half new)
+up_one half connection old new e = inr (ap closed e)
+
+up_row : (half connection : ℕ) (old new : TrailState) (events recorded : List Event) (heavy : Event) (more : List Event) → events ≡ [] → Up connection ∷ events ≡ recorded ++ heavy ∷ more → new.book ≡ grow_all recorded old.now (closed old.book)
+    → LineInPart connection (side_seen half old) (side_seen half new)
+up_row half connection old new events [] heavy more none row e = inl (ap closed e)
+up_row half connection old new events (first ∷ []) heavy more none row e = absurd (let never : [] ≡ heavy ∷ more = sym none ∙ cc in cc)
+up_row half connection old new events (first ∷ next ∷ recorded) heavy more none row e = absurd (let never : [] ≡ next ∷ (recorded ++ heavy ∷ more) = sym none ∙ cc in cc)
+
+up_so : (half connection : ℕ) (fault : ProxyFault) (old new : TrailState) → RunsOn old → old.now.live.here ≡ None → FailsSo (Up connection) fault old new → LineInPart connection (side_seen half old) (side_seen half new)
+up_so half connection fault old new r up (HeavyAtOnce e d) = inl (ap closed d.book)
+up_so half connection fault old new r up (HeavyThen e d) = elim (ran (Up connection) d.answer d.events old.now d.last (r.keeps.runs r.goes_on).fault d.calls) [
+  | inl begun ↦ up_row half connection old new d.events d.recorded d.heavy_event d.more (up_alone connection old begun.at d.events r up begun.part) d.row d.book
+  | inr not_run ↦ up_row half connection old new d.events d.recorded d.heavy_event d.more not_run.none d.row d.book
+]
+up_so half connection fault old new r up (Failed d) =
+    up_one half connection old new (d.whole.book ∙ ap (λ (es : List Event). grow_all (Up connection ∷ es) old.now (closed old.book)) (up_alone connection old d.stops.last d.events r up d.stops.part))
+up_so half connection fault old new r up (FailedAtOnce d) = inl (ap closed d.book)
+up_so half connection fault old new r up (NoMemory d) = elim d.first [
+  | inl none ↦ inl (ap closed (d.book ∙ ap (λ (es : List Event). grow_all es old.now (closed old.book)) none))
+  | inr one ↦ up_one half connection old new (d.book ∙ ap (λ (es : List Event). grow_all es old.now (closed old.book)) one.0)
+]
+
+pub up_fails : UpFails
+up_fails half connection fault old new r up calls =
+    let d : FailsNow (Up connection) fault old new = subst (λ (it : Option ProxyFault). TrailAfter it (Up connection) (Err fault) old new) r.goes_on calls in
+    up_so half connection fault old new r up d.so
+
+-- ---- room for the front
+
+pub lends_fails : LendsFails
+lends_fails half fault old new r lends =
+    let d : NotLent fault old new = subst (λ (it : Option ProxyFault). LendsAfter it (Err fault) old new) r.goes_on lends in
+    (because d.because, ap (λ (s : Now). seen half s new.book) d.now ∙ ap (λ (book : Book). seen half old.now book) d.book)
+  where
+    because : TooHeavyFront fault old ⊎ (fault ≡ Memory) → RefusesPiece fault
+    because (inl heavy) = inl heavy.0
+    because (inr memory) = inr memory
+
+-- ---- records of a side that has failed
+
+index_room : (fault : Option ProxyFault) (book : Book) → IndexIs fault book.trail → IndexIs fault (closed book).trail
+index_room None book h = tt
+index_room (Some (faults.Frame connection place cause)) book h = tt
+index_room (Some (faults.Peer index cause)) book h = h
+index_room (Some (faults.Limit which)) book h = tt
+index_room (Some Memory) book h = tt
+
+law_closed : (side : Side) (token : List ℕ) (book : Book) (fault : Option ProxyFault) → Law side token book fault → Law side token (closed book) fault
+law_closed side token book fault h = record {
+  story = h.story;
+  tells = record { side_is = h.tells.side_is; taken = h.tells.taken; made = h.tells.made; copies = h.tells.copies; accepted = h.tells.accepted; acknowledged = h.tells.acknowledged; order = h.tells.order };
+  log = h.log;
+  stop = h.stop;
+  wire = h.wire;
+  heard = h.heard;
+  stops = h.stops;
+  index = index_room fault book h.index;
+  weighs = omega (arith, same_weight 0 book, h.weighs);
+}
+
+pub kept_by_fault : KeptByFault
+kept_by_fault half fault t k e token =
+    subst (λ (it : List ℕ). Law t.now.side it (closed t.book) (Some fault)) token
+    (subst (λ (it : Option ProxyFault). Law t.now.side t.now.token (closed t.book) it) e (law_closed t.now.side t.now.token t.book t.fault k.law))

@@ -13,3 +13,4 @@ pub mod Lines
 pub mod Tying
 pub mod Agreeing
 pub mod Failing
+pub mod Handing

@@ -1,5 +1,5 @@
 -- What a proxy shows of itself between two calls is what its side in a run is said to do.
-use Rattle.std.proofs.Common.{◌≡◌, ℕ, ◌+◌, ◌≤◌, List, [], ◌∷◌, ◌++◌, map, drop, length, Bool, true, false, not, ◌&&◌, is_none, Option, Some, None, refl, sym, ap, subst, ◌∙◌, arith, length-drop, if◌then◌else◌}
+use Rattle.std.proofs.Common.{◌≡◌, ℕ, ◌+◌, ◌≤◌, List, [], ◌∷◌, ◌++◌, map, drop, length, Bool, true, false, not, ◌&&◌, is_none, Option, Some, None, refl, sym, ap, subst, ◌∙◌, arith, length-drop, inl, inr, ◌⊎◌, if◌then◌else◌}
 use Rattle.std.proofs.lemmas.List.{append-nil, length-map}
 use Rattle.std.specs.Prelude.{count_by}
 use Rattle.std.specs.Option.{MatchOption}
@@ -13,7 +13,8 @@ use Rattle.half_model.specs.Jobs.{Job, all_back}
 use Rattle.half_model.specs.Log.{LogState}
 use Rattle.half_model.specs.Story.{accepted_in, messages_in}
 use Rattle.half_model.specs.StoryLaws.{now}
-use Rattle.half_model.specs.Turn.{made_of, group_due}
+use Rattle.half_model.specs.Turn as turns
+use Rattle.half_model.specs.Turn.{turn, waits_in, made_of, group_due}
 use Rattle.half_model.specs.TurnLaws.{JobsOf}
 use Rattle.pair_model.specs.Lines.{Line, SideRecord}
 use Rattle.pair_model.specs.Quiet.{NoFront}
@@ -23,24 +24,25 @@ use Rattle.pair_model.specs.Wire.{Wire, Sees}
 use Rattle.pair_model.proofs.Idling.{idle_no_front}
 use Rattle.side_model.specs.declared.fault.ProxyFault.{ProxyFault}
 use Rattle.side_model.specs.Books.{Book, TrailRecord, closed, weight, MOST_WEIGHT}
-use Rattle.side_model.specs.Due.{is_free, has_room, next}
+use Rattle.side_model.specs.Due as due
+use Rattle.side_model.specs.Due.{has_room, treat, end, end_on, next}
 use Rattle.side_model.specs.Events.{Rest}
 use Rattle.side_model.specs.Follows.{Follows, JobsFollow, LinkFollows, Rests, is_message}
 use Rattle.side_model.specs.Places.{places_in, side_of, no_places}
 use Rattle.side_model.specs.Resting.{Calm, NothingToSend}
-use Rattle.side_model.specs.Shows.{wants_peer, front_of, front_here, unless_fault, is_open, is_empty}
+use Rattle.side_model.specs.Shows.{has_made_close, wants_peer, front_of, front_here, unless_fault, is_open, is_empty}
 use Rattle.side_model.specs.State.{Now, Closing, Open, Asked, Made}
 use Rattle.side_model.specs.Trails as trails
 use Rattle.side_model.specs.Trails.{TrailState}
-use Rattle.side_model.proofs.Calms.{rest_is_calm}
-use Rattle.side_model.proofs.Dues.{AllRest, all_rest, is_quiet, IsQuiet, no_group_due}
+use Rattle.side_model.proofs.Calms.{rest_is_calm, idle_waits}
+use Rattle.side_model.proofs.Dues.{AllRest, all_rest, is_quiet, IsQuiet, no_group_due, turn_idle}
 use Rattle.side_model.proofs.Links.{link_down}
 use Rattle.side_model.proofs.TrailParts.{follows_room, same_weight}
 use Rattle.pair_laws.specs.Everything.{GaveAll}
 use Rattle.pair_laws.proofs.Receiving.{meant_count}
 use Rattle.pair_laws.proofs.Saying.{meant_length}
 use Rattle.pair_runs.specs.Kept.{GoesOn, owed_words}
-use Rattle.pair_runs.specs.Sides.{TOKEN, awaited, words_in, seen, side_seen, wants, ring_in, rows_of, last_number, link_record}
+use Rattle.pair_runs.specs.Sides.{TOKEN, is_free, awaited, words_in, seen, side_seen, wants, ring_in, rows_of, last_number, link_record}
 use Rattle.pair_runs.specs.WorkLaws.{RunsOn, WantsIs, NothingLent, KeptByCalls}
 
 -- ---- copies
@@ -89,16 +91,22 @@ not_not : (b : Bool) → not (not b) ≡ b
 not_not true = refl
 not_not false = refl
 
+-- it may take a message just where its proxy is free to
+free_is : (half : ℕ) (t : TrailState) → RunsOn t → is_free (side_seen half t) ≡ due.is_free t.now.live.sending.owes t.now.kept.ring
+free_is half t r =
+    let on = r.keeps.runs r.goes_on in
+    let s : Now = t.now in
+    let none : group_due s.live.sending.owes s.kept.jobs ≡ None = no_group_due s (all_rest s on.rests).groups in
+    ap (λ (b : Bool). b && has_room (ring_in t.book.trail)) (awaits_is s.live.sending.owes s.kept.jobs none)
+    ∙ ap (λ (ring : RingState). is_none s.live.sending.owes && has_room ring) (ring_told t.book.trail s.kept.ring on.follows.ring on.follows.acknowledged)
+
 pub wants_is : WantsIs
 wants_is half t r =
     let on = r.keeps.runs r.goes_on in
     let s : Now = t.now in
-    let due : group_due s.live.sending.owes s.kept.jobs ≡ None = no_group_due s (all_rest s on.rests).groups in
-    let copies : Bool = is_empty (map words_in (awaited s.live.sending.owes s.kept.jobs)) in
-    ap (λ (b : Bool). b && (copies && has_room (ring_in t.book.trail))) (not_not (is_open s.kept.closing))
-    ∙ ap (λ (b : Bool). is_open s.kept.closing && (b && has_room (ring_in t.book.trail))) (awaits_is s.live.sending.owes s.kept.jobs due)
-    ∙ ap (λ (ring : RingState). is_open s.kept.closing && (is_none s.live.sending.owes && has_room ring)) (ring_told t.book.trail s.kept.ring on.follows.ring on.follows.acknowledged)
-    ∙ sym (ap (λ (fault : Option ProxyFault). is_none fault && (is_open s.kept.closing && is_free s.live.sending.owes s.kept.ring)) on.fault)
+    ap (λ (b : Bool). b && is_free (side_seen half t)) (not_not (is_open s.kept.closing))
+    ∙ ap (λ (b : Bool). is_open s.kept.closing && b) (free_is half t r)
+    ∙ sym (ap (λ (fault : Option ProxyFault). is_none fault && (is_open s.kept.closing && due.is_free s.live.sending.owes s.kept.ring)) on.fault)
 
 -- ---- there is nothing to be sent
 
@@ -134,12 +142,35 @@ nothing_lent half here t r token up front =
 
 -- ---- the records are kept
 
+-- a whole message waits only where it must
+treated_so : (s : Now) → treat s ≡ Rest → waits_in s.live.sending ≡ true → due.is_free s.live.sending.owes s.kept.ring ≡ false
+treated_so s rest w = elim (turn_idle s rest) [
+  | inl held ↦ held
+  | inr idle ↦ by_owes s.live.sending.owes refl idle
+]
+  where
+    by_owes : (owes : Option Owed) → s.live.sending.owes ≡ owes → turn s.live.tables s.live.sending ≡ turns.Idle → due.is_free s.live.sending.owes s.kept.ring ≡ false
+    by_owes None e idle = absurd (let never : true ≡ false = sym w ∙ idle_waits s.live.tables s.live.sending idle e in cc)
+    by_owes (Some owed) e idle = ap (λ (owes : Option Owed). due.is_free owes s.kept.ring) e
+
+-- CLOSE is made once it can be
+closed_so : (s : Now) → end s ≡ Rest → not (is_open s.kept.closing) ≡ true → waits_in s.live.sending ≡ false → s.live.sending.owes ≡ None → has_made_close s.kept.closing ≡ true
+unfolding end
+closed_so s rest asked w none = by_closing s.kept.closing refl rest
+  where
+    by_closing : (closing : Closing) → s.kept.closing ≡ closing → end_on closing (is_none s.live.sending.owes && not (waits_in s.live.sending)) ≡ Rest → has_made_close s.kept.closing ≡ true
+    by_closing Open e d = absurd (let never : false ≡ true = sym (ap (λ (c : Closing). not (is_open c)) e) ∙ asked in cc)
+    by_closing Made e d = ap has_made_close e
+    by_closing (Asked reason) e d =
+        let still : is_none s.live.sending.owes && not (waits_in s.live.sending) ≡ true = ap (λ (owes : Option Owed). is_none owes && not (waits_in s.live.sending)) none ∙ ap not w in
+        absurd (let never : end_on (Asked reason) true ≡ Rest = ap (end_on (Asked reason)) (sym still) ∙ d in cc)
+
 pub kept_by_calls : KeptByCalls
 kept_by_calls half t r token items =
     let on = r.keeps.runs r.goes_on in
     let s : Now = t.now in
     let f : Follows s (closed t.book) = follows_room 0 s t.book on.follows in
-    let due : group_due s.live.sending.owes s.kept.jobs ≡ None = no_group_due s (all_rest s on.rests).groups in
+    let dues : group_due s.live.sending.owes s.kept.jobs ≡ None = no_group_due s (all_rest s on.rests).groups in
     let rests : Rests s.token (side_of t.book.trail (places_in f.story) None) (accepted_in f.story) =
     link_down s.token (side_of t.book.trail (places_in f.story) None) (accepted_in f.story) s.live.here (is_quiet s (all_rest s on.rests).hears) f.link in
     let wire : Wire TOKEN (side_of t.book.trail (places_in f.story) None) = subst (λ (it : List ℕ). Wire it (side_of t.book.trail (places_in f.story) None)) token rests.wire in
@@ -148,6 +179,10 @@ kept_by_calls half t r token items =
     record {
       law = record { story = f.story; tells = f.tells; log = f.log; stop = None; wire = wire; heard = rests.accepts; stops = refl; index = tt; weighs = omega (arith, same_weight 0 t.book, r.keeps.law.weighs) };
       gave = f.items.counts ∙ ap (count_by is_message) gone ∙ sym (meant_count s.side f.story f.log) ∙ meant_length s.side f.story f.log;
-      awaits = awaits_owed s.live.sending.owes s.kept.jobs due f.jobs ∙ ap owed_words (sym owes);
-      owes = λ none. owes ∙ none_owed s.live.sending.owes (sym (awaits_is s.live.sending.owes s.kept.jobs due) ∙ ap is_empty none);
+      awaits = awaits_owed s.live.sending.owes s.kept.jobs dues f.jobs ∙ ap owed_words (sym owes);
+      treated = λ w. free_is half t r ∙ treated_so s (all_rest s on.rests).treats w;
+      closes = λ asked w none.
+          let owed : s.live.sending.owes ≡ None = none_owed s.live.sending.owes (sym (awaits_is s.live.sending.owes s.kept.jobs dues) ∙ ap is_empty none) in
+          ap (λ (log : LogState). log.closed) f.after ∙ closed_so s (all_rest s on.rests).ends asked w owed;
+      owes = λ none. owes ∙ none_owed s.live.sending.owes (sym (awaits_is s.live.sending.owes s.kept.jobs dues) ∙ ap is_empty none);
     }

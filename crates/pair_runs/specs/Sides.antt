@@ -93,9 +93,13 @@ ring_in trail = record {
   frames = map spelling (drop trail.acknowledged trail.made);
 }
 
--- it takes from its wire: it was not asked to close, waits for no copy, and its ring has room
+-- it may take a message: it waits for no copy, and its ring has room
+abbrev pub is_free : SideState → Bool
+is_free it = is_empty it.copies && has_room (ring_in it.book.trail)
+
+-- it takes from its wire while it was not asked to close
 abbrev pub wants : SideState → Bool
-wants it = not it.inside.asked && (is_empty it.copies && has_room (ring_in it.book.trail))
+wants it = not it.inside.asked && is_free it
 
 -- the number of its last connection, 0 before the first
 abbrev pub last_number : List Line → ℕ

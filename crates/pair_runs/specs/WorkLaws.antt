@@ -2,9 +2,10 @@
 -- each bad one in part. Messages are Wayland's; proxies, records and runs are this project's own.
 use Rattle.std.specs.Prelude.{◌≡◌, ℕ, ◌≤◌, List, [], ◌∷◌, take, length, Option, Some, None, Result}
 use Rattle.std.specs.Prelude.{Ok, Err, Bool, true, false, ◌⊎◌}
+use Rattle.std.specs.List.{AllByRecursion}
 use Rattle.std.specs.Option.{MatchOption}
 use Rattle.half_model.specs.declared.items.PeerIn.{PeerIn}
-use Rattle.half_model.specs.Jobs.{Done, Job, all_back, handed, is_done}
+use Rattle.half_model.specs.Jobs.{Done, is_out, all_back, handed}
 use Rattle.pair_model.specs.Quiet.{NoFront}
 use Rattle.pair_model.specs.Steps.{Here}
 use Rattle.side_model.specs.declared.fault.ProxyFault.{ProxyFault}
@@ -12,9 +13,10 @@ use Rattle.side_model.specs.Events.{Event, Fed, Handed, Lent, Up, Down, Came, Ga
 use Rattle.side_model.specs.Follows.{is_message}
 use Rattle.side_model.specs.Shows.{wants_peer, next_item, front_of}
 use Rattle.side_model.specs.Trails.{TrailState, Keeps, TrailCalls, trail_step, Sends, Lends}
-use Rattle.pair_runs.specs.Kept.{GoesOn}
-use Rattle.pair_runs.specs.Linking.{with_line, written, read}
-use Rattle.pair_runs.specs.Sides.{SideState, TOKEN, fed, asked, all_loaded, wants, awaited, side_seen}
+use Rattle.pair_runs.specs.Kept.{GoesOn, HasFailed}
+use Rattle.pair_runs.specs.Linking.{with_line, written, read, RefusesPiece}
+use Rattle.pair_runs.specs.Moves.{LineInPart}
+use Rattle.pair_runs.specs.Sides.{SideState, TOKEN, fed, asked, all_loaded, wants, side_seen}
 use Rattle.pair_runs.specs.Sides.{rows_of, last_number, link_record}
 use Rattle.pair_runs.specs.Working.{Works, WorksInPart}
 
@@ -73,6 +75,32 @@ pub record GaveWorks : Type 0 where
       → MatchOption (next_item old.now.live) (Unit {0}) (λ item. is_message item ≡ false)
       → side_seen half (trail_step Gave old) ≡ side_seen half old
 
+-- ---- copies
+
+-- The first copy that waits is lent, of which nothing is loaded then.
+abbrev pub LentIs : Type 0
+LentIs = (old : TrailState) → side_seen 0 (trail_step Lent old) ≡ side_seen 0 old
+
+-- A copy that is out is handed back, with as many words as are loaded of it; others are awaited
+abbrev pub HandedIs : Type 0
+HandedIs = (half : ℕ) (done : Done) (old new : TrailState) → RunsOn old
+    → half ≡ length done.words → all_back (handed done old.now.kept.jobs) ≡ false
+    → TrailCalls (Handed done) (Ok tt) old new
+    → side_seen half new ≡ side_seen half old
+
+-- or it is the last one.
+abbrev pub HandedWorks : Type 0
+HandedWorks = (half : ℕ) (done : Done) (old new : TrailState) → RunsOn old
+    → all_back (handed done old.now.kept.jobs) ≡ true
+    → TrailCalls (Handed done) (Ok tt) old new
+    → Works false (all_loaded (side_seen half old)) (side_seen half new)
+
+-- Where no copy is out, it is no matter how many words are loaded of it.
+abbrev pub NoneOut : Type 0
+NoneOut = (half other : ℕ) (t : TrailState)
+    → AllByRecursion (λ job. is_out job.state ≡ false) t.now.kept.jobs
+    → side_seen half t ≡ side_seen other t
+
 -- ---- calls that meet a fault
 
 -- what a call was made for is done, or not
@@ -94,6 +122,29 @@ abbrev pub AsksFails : Type 0
 AsksFails = (half reason : ℕ) (fault : ProxyFault) (old new : TrailState) → RunsOn old
     → TrailCalls (Asks reason) (Err fault) old new
     → WorksInPart (asked (side_seen half old)) (side_seen half new)
+
+abbrev pub HandedFails : Type 0
+HandedFails = (half : ℕ) (done : Done) (fault : ProxyFault) (old new : TrailState) → RunsOn old
+    → TrailCalls (Handed done) (Err fault) old new
+    → WorksInPart (side_seen half old) (side_seen half new)
+
+-- a connection has its line, or not
+abbrev pub UpFails : Type 0
+UpFails = (half connection : ℕ) (fault : ProxyFault) (old new : TrailState) → RunsOn old
+    → old.now.live.here ≡ None
+    → TrailCalls (Up connection) (Err fault) old new
+    → LineInPart connection (side_seen half old) (side_seen half new)
+
+-- no room is made for the front, which only these faults are the cause of
+abbrev pub LendsFails : Type 0
+LendsFails = (half : ℕ) (fault : ProxyFault) (old new : TrailState) → RunsOn old
+    → Lends (Err fault) old new
+    → RefusesPiece fault × (side_seen half new ≡ side_seen half old)
+
+-- the records of a side that has failed are lawful
+abbrev pub KeptByFault : Type 0
+KeptByFault = (half : ℕ) (fault : ProxyFault) (t : TrailState) → Keeps t → t.fault ≡ Some fault
+    → t.now.token ≡ TOKEN → HasFailed t.now.side (side_seen half t) fault
 
 -- ---- what a proxy shows
 

@@ -6,12 +6,14 @@ ghost use Rattle.pair_runs.specs.Quiet.{QuietIsDone};
 ghost use Rattle.pair_runs.specs.RunLaws.{RunsKeep, SettlesQuietly, DrainsQuietly};
 ghost use Rattle.pair_runs.specs.WorkLaws.{FedWorks, CameWorks, AsksWorks, UpIs, DownIs, LendsIs, SendsIs};
 ghost use Rattle.pair_runs.specs.WorkLaws.{WantsIs, NothingLent, KeptByCalls, FedFails, CameFails, AsksFails};
+ghost use Rattle.pair_runs.specs.WorkLaws.{HandedFails, UpFails, LendsFails, KeptByFault};
+ghost use Rattle.pair_runs.specs.WorkLaws.{GaveWorks, LentIs, HandedIs, HandedWorks, NoneOut};
 ghost use Rattle.pair_runs.specs.WrongRuns.{SkipsBreak, ConnectsAgain, SkipsNumber, PushesLess};
 ghost use Rattle.pair_runs.specs.WrongRuns.{TakesFree, LoadsWhole};
 
 /// Each good call of a proxy with its records is what its move says: it takes an item of its peer,
 /// hears what comes on the connection, is asked to close, has a connection that comes up or goes
-/// down, lends bytes of its front and sends them.
+/// down, lends bytes of its front and sends them, gives an item, lends a copy and has it handed back.
 pub fn calls_work()
     ensures fed { FedWorks }
     ensures came { CameWorks }
@@ -20,6 +22,11 @@ pub fn calls_work()
     ensures down { DownIs }
     ensures lends { LendsIs }
     ensures sends { SendsIs }
+    ensures gives { GaveWorks }
+    ensures lent { LentIs }
+    ensures handed { HandedIs }
+    ensures last { HandedWorks }
+    ensures none_out { NoneOut }
 {}
 
 /// Each call that meets a fault is what its move leaves in part.
@@ -27,6 +34,10 @@ pub fn calls_fail()
     ensures fed { FedFails }
     ensures came { CameFails }
     ensures asks { AsksFails }
+    ensures handed { HandedFails }
+    ensures up { UpFails }
+    ensures lends { LendsFails }
+    ensures kept { KeptByFault }
 {}
 
 /// Between two calls a proxy takes from its peer just where its side in a run does, lends nothing

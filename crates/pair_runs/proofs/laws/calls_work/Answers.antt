@@ -1,4 +1,5 @@
 use Rattle.pair_runs.proofs.Calling.{fed_works, came_works, asks_works, up_is, down_is, lends_is, sends_is}
+use Rattle.pair_runs.proofs.Handing.{gave_works, lent_is, handed_is, handed_works, none_out}
 use Rattle.pair_runs.proofs.laws.calls_work.Goals as goal
 
 pub returns-clause-fed : goal.returns-clause-fed
@@ -21,3 +22,18 @@ returns-clause-lends c = lends_is
 
 pub returns-clause-sends : goal.returns-clause-sends
 returns-clause-sends c = sends_is
+
+pub returns-clause-gives : goal.returns-clause-gives
+returns-clause-gives c = gave_works
+
+pub returns-clause-lent : goal.returns-clause-lent
+returns-clause-lent c = lent_is
+
+pub returns-clause-handed : goal.returns-clause-handed
+returns-clause-handed c = handed_is
+
+pub returns-clause-last : goal.returns-clause-last
+returns-clause-last c = handed_works
+
+pub returns-clause-none_out : goal.returns-clause-none_out
+returns-clause-none_out c = none_out
