@@ -14,3 +14,5 @@ pub mod Tying
 pub mod Agreeing
 pub mod Failing
 pub mod Handing
+pub mod Bringing
+pub mod Receiving

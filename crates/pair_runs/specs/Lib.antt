@@ -13,3 +13,4 @@ pub mod Quiet
 pub mod RunLaws
 pub mod WrongRuns
 pub mod Agreeing
+pub mod Headline

@@ -1,6 +1,7 @@
 //! The laws of runs: functions that do nothing, and whose contract is the law.
 
 ghost use Rattle.pair_runs.specs.Agreeing.{MovesTie, RunsAgree};
+ghost use Rattle.pair_runs.specs.Headline.{RunsTakeFirst, RunsReceive};
 ghost use Rattle.pair_runs.specs.Measure.{RoundFalls};
 ghost use Rattle.pair_runs.specs.Quiet.{QuietIsDone};
 ghost use Rattle.pair_runs.specs.RunLaws.{RunsKeep, SettlesQuietly, DrainsQuietly};
@@ -68,6 +69,14 @@ pub fn runs_keep()
 pub fn runs_agree()
     ensures moves { MovesTie }
     ensures runs { RunsAgree }
+{}
+
+/// In each run each side takes the first messages that its peer put; and while no byte of the line is
+/// replaced the compositor receives the first ones that the application put, each once, and the
+/// application the first that the registry view shows of those of the compositor.
+pub fn runs_receive()
+    ensures take { RunsTakeFirst }
+    ensures receive { RunsReceive }
 {}
 
 /// No run skips a break or the number of a connection, makes a connection while one is up, writes
