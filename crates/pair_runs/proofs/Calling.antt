@@ -56,6 +56,7 @@ pub record Ran (event : Event) (old new : TrailState) : Type 0 where
   pub events : List Event
   pub last : Now
   pub row : Row (step event old.now) events last Rest
+  pub now : new.now ≡ with_notes [] last
   pub is : (half : ℕ) → side_seen half new ≡ seen half last (grow_all events (step event old.now) (grown event old.now (closed old.book)))
 
 pub ran_by : (event : Event) (old new : TrailState) → RunsOn old → TrailCalls event (Ok tt) old new → Ran event old new
@@ -65,6 +66,7 @@ ran_by event old new r calls =
       events = d.events;
       last = d.last;
       row = ok_row event d.events old.now d.last (r.keeps.runs r.goes_on).fault d.calls;
+      now = d.now;
       is = λ half. ap (λ (s : Now). seen half s new.book) d.now ∙ ap (λ (book : Book). seen half d.last book) d.whole.book;
     }
 
@@ -119,7 +121,7 @@ pipe_here pipes.Barred s = refl
 pipe_here (pipes.Drops tables) s = refl
 pipe_here (pipes.Makes frame tables) s = refl
 
-fed_here : (item : PeerIn) (s : Now) → (step (Fed item) s).live.here ≡ s.live.here
+pub fed_here : (item : PeerIn) (s : Now) → (step (Fed item) s).live.here ≡ s.live.here
 unfolding step
 fed_here (items.Bytes piece) s = refl
 fed_here (items.Handle handle) s = refl

@@ -16,3 +16,4 @@ pub mod Failing
 pub mod Handing
 pub mod Bringing
 pub mod Receiving
+pub mod More

@@ -164,7 +164,7 @@ works_due half event s book (InEnd a b c h) = may_hear _ _ (works_quiet half eve
 works_due half event s book (InChoose a b c d h) = may_hear _ _ (works_quiet half event s book a (InChoose a b c d h))
 
 -- and no frame is to be heard behind it
-stays_quiet : (event : Event) (s : Now) → hear s ≡ Rest → DueIn s event → hear (step event s) ≡ Rest
+pub stays_quiet : (event : Event) (s : Now) → hear s ≡ Rest → DueIn s event → hear (step event s) ≡ Rest
 stays_quiet event s quiet (InHear h) = absurd (let never : Do event ≡ Rest = sym h ∙ quiet in cc)
 stays_quiet event s quiet (InGroup a h) = hears_none (step event s) (quiet_worked event s (inr (inl (group_is_due s event h).is)) (is_quiet s quiet))
 stays_quiet event s quiet (InTreat a b h) = hears_none (step event s) (quiet_worked event s (inl (turn_due s event h).is) (is_quiet s quiet))

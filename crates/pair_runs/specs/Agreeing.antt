@@ -47,6 +47,7 @@ SparesAll played = AllByRecursion (λ it. IsSparing it.what) played
 -- that ends where nothing moved any more has nothing left to move.
 pub record RunsAgree : Type 0 where
   pub agree : (steps : List Step) (played : List Played) (last : State) (end : End)
-      → Runs steps played last end → SparesAll played → Agrees (rows_of last.near) (rows_of last.far)
+      → Runs steps played last end → SparesAll played
+      → Agrees (rows_of last.near) (rows_of last.far)
   pub done : (steps : List Step) (played : List Played) (last : State)
       → Runs steps played last Drained → SparesAll played → IsDone last

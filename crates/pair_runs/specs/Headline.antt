@@ -58,10 +58,12 @@ fault_of side (Some it) = if_side side it.side it.fault
 -- first messages that the application put, each once; the application the first that the registry
 -- view shows of the far side's order, in which the compositor's are the first that it put.
 pub record Receives (steps : List Step) (last : State) (stop : Option Fault) : Type 0 where
-  pub pair : IsPair (one_side last.near (fault_of Near stop)) (one_side last.far (fault_of Far stop))
+  pub pair : IsPair (one_side last.near (fault_of Near stop))
+      (one_side last.far (fault_of Far stop))
   pub prefixes : Prefixes (one_side last.near (fault_of Near stop))
       (one_side last.far (fault_of Far stop)) pair
-  pub up : IsFront (messages (received_by Far (one_side last.far (fault_of Far stop)) pair.other_law))
+  pub up : IsFront
+      (messages (received_by Far (one_side last.far (fault_of Far stop)) pair.other_law))
       (cut (puts Near steps))
   pub events : IsFront last.far.book.trail.taken (cut (puts Far steps))
 

@@ -8,6 +8,7 @@ pub mod Kept
 pub mod Moves
 pub mod Runs
 pub mod WorkLaws
+pub mod MoreLaws
 pub mod Measure
 pub mod Quiet
 pub mod RunLaws

@@ -24,7 +24,8 @@ with_line connection it = on_rows (λ rows. rows ++ new_line connection ∷ []) 
 abbrev pub written : List ℕ → SideState → SideState
 written bytes it = on_rows (on_last (with_written bytes)) it
 
--- Up to so many bytes are written on the last connection, fewer only where then nothing is to be sent.
+-- Up to so many bytes are written on the last connection, fewer only where then nothing is to be
+-- sent.
 pub record Writes (most : ℕ) (bytes : List ℕ) (a b : SideState) : Type 0 where
   pub up : rows_of a ≢ []
   pub few : length bytes ≤ most

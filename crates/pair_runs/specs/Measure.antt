@@ -19,8 +19,8 @@ abbrev pub copies_left : List ℕ → ℕ
 copies_left [] = 0
 copies_left (words ∷ copies) = 1
 
--- what the records may still grow by, twice, and whether copies are awaited: a message that is taken
--- weighs more than its copies count
+-- what the records may still grow by, twice, and whether copies are awaited: a message that is
+-- taken weighs more than its copies count
 abbrev pub side_left : SideState → ℕ
 side_left it = 2 * (MOST_WEIGHT - weight it.book.trail) + copies_left it.copies
 

@@ -1,5 +1,5 @@
--- What moves in a run, one thing after another: items, words, bytes, connections. The moves are this
--- project's own.
+-- What moves in a run, one thing after another: items, words, bytes, connections. The moves are
+-- this project's own.
 use Rattle.std.specs.Prelude.{◌≡◌, ℕ, suc, ◌<◌, ◌||◌, ◌&&◌, not, nat_lt, if◌then◌else◌, Bool}
 use Rattle.std.specs.Prelude.{true, false, is_none, List, [], ◌∷◌, ◌++◌, take, drop, length}
 use Rattle.std.specs.Prelude.{slice_set, Option, Some, None, option_map, ◌⊎◌}

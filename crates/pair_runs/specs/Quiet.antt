@@ -1,5 +1,5 @@
--- What holds of the line between both sides while no byte of it is replaced, and that nothing is left
--- where a round changes nothing; this project's own.
+-- What holds of the line between both sides while no byte of it is replaced, and that nothing is
+-- left where a round changes nothing; this project's own.
 use Rattle.std.specs.Prelude.{◌≡◌, ℕ, ◌<◌, ◌++◌, List, [], Option, None}
 use Rattle.std.specs.Option.{MatchOption}
 use Rattle.wp_outside.specs.declared.kinds.Side.TheVariants.{Near, Far}

@@ -59,8 +59,8 @@ rows_of it = it.book.trail.lines.rows
 
 -- its connections changed
 abbrev pub on_rows : (List Line → List Line) → SideState → SideState
-on_rows change it =
-    with_trail (λ trail. record trail { lines = with_rows (change trail.lines.rows) trail.lines }) it
+on_rows change it = with_trail
+    (λ trail. record trail { lines = with_rows (change trail.lines.rows) trail.lines }) it
 
 -- with an item from its wire; what is done to a pipe waits for nothing
 abbrev pub fed_inside : PeerIn → Inside → Inside

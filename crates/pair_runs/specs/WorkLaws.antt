@@ -1,5 +1,6 @@
--- What the calls of a proxy with its records are in a run: each good one works as its move says, and
--- each bad one in part. Messages are Wayland's; proxies, records and runs are this project's own.
+-- What the calls of a proxy with its records are in a run: each good one works as its move says,
+-- and each bad one in part. Messages are Wayland's; proxies, records and runs are this project's
+-- own.
 use Rattle.std.specs.Prelude.{◌≡◌, ℕ, ◌≤◌, List, [], ◌∷◌, take, length, Option, Some, None, Result}
 use Rattle.std.specs.Prelude.{Ok, Err, Bool, true, false, ◌⊎◌}
 use Rattle.std.specs.List.{AllByRecursion}

@@ -3,10 +3,13 @@
 ghost use Rattle.pair_runs.specs.Agreeing.{MovesTie, RunsAgree};
 ghost use Rattle.pair_runs.specs.Headline.{RunsTakeFirst, RunsReceive};
 ghost use Rattle.pair_runs.specs.Measure.{RoundFalls};
+ghost use Rattle.pair_runs.specs.MoreLaws.{WorksMore, ReadsMore, WritesMore, BeginsFirst};
+ghost use Rattle.pair_runs.specs.MoreLaws.{GivesNoMore};
 ghost use Rattle.pair_runs.specs.Quiet.{QuietIsDone};
 ghost use Rattle.pair_runs.specs.RunLaws.{RunsKeep, SettlesQuietly, DrainsQuietly};
-ghost use Rattle.pair_runs.specs.WorkLaws.{FedWorks, CameWorks, AsksWorks, UpIs, DownIs, LendsIs, SendsIs};
-ghost use Rattle.pair_runs.specs.WorkLaws.{WantsIs, NothingLent, KeptByCalls, FedFails, CameFails, AsksFails};
+ghost use Rattle.pair_runs.specs.WorkLaws.{FedWorks, CameWorks, AsksWorks, UpIs, DownIs};
+ghost use Rattle.pair_runs.specs.WorkLaws.{LendsIs, SendsIs, WantsIs, NothingLent, KeptByCalls};
+ghost use Rattle.pair_runs.specs.WorkLaws.{FedFails, CameFails, AsksFails};
 ghost use Rattle.pair_runs.specs.WorkLaws.{HandedFails, UpFails, LendsFails, KeptByFault};
 ghost use Rattle.pair_runs.specs.WorkLaws.{GaveWorks, LentIs, HandedIs, HandedWorks, NoneOut};
 ghost use Rattle.pair_runs.specs.WrongRuns.{SkipsBreak, ConnectsAgain, SkipsNumber, PushesLess};
@@ -14,7 +17,8 @@ ghost use Rattle.pair_runs.specs.WrongRuns.{TakesFree, LoadsWhole};
 
 /// Each good call of a proxy with its records is what its move says: it takes an item of its peer,
 /// hears what comes on the connection, is asked to close, has a connection that comes up or goes
-/// down, lends bytes of its front and sends them, gives an item, lends a copy and has it handed back.
+/// down, lends bytes of its front and sends them, gives an item, lends a copy and has it handed
+/// back.
 pub fn calls_work()
     ensures fed { FedWorks }
     ensures came { CameWorks }
@@ -41,6 +45,17 @@ pub fn calls_fail()
     ensures kept { KeptByFault }
 {}
 
+/// Calls one after another are one move, also where bytes are read or written in pieces. A proxy with
+/// empty records is a side at first, and where no frame can be heard a call brings nothing for its
+/// peer but receipts.
+pub fn calls_compose()
+    ensures works { WorksMore }
+    ensures reads { ReadsMore }
+    ensures writes { WritesMore }
+    ensures first { BeginsFirst }
+    ensures gives { GivesNoMore }
+{}
+
 /// Between two calls a proxy takes from its peer just where its side in a run does, lends nothing
 /// just where nothing is to be sent, and keeps its records as such a side does.
 pub fn calls_show()
@@ -49,8 +64,8 @@ pub fn calls_show()
     ensures kept { KeptByCalls }
 {}
 
-/// A round that changes something leaves less to move, and where one changes nothing, no byte of the
-/// line having been replaced, nothing is left to move.
+/// A round that changes something leaves less to move, and where one changes nothing, no byte of
+/// the line having been replaced, nothing is left to move.
 pub fn rounds_end()
     ensures falls { RoundFalls }
     ensures done { QuietIsDone }
@@ -71,8 +86,8 @@ pub fn runs_agree()
     ensures runs { RunsAgree }
 {}
 
-/// In each run each side takes the first messages that its peer put; and while no byte of the line is
-/// replaced the compositor receives the first ones that the application put, each once, and the
+/// In each run each side takes the first messages that its peer put; and while no byte of the line
+/// is replaced the compositor receives the first ones that the application put, each once, and the
 /// application the first that the registry view shows of those of the compositor.
 pub fn runs_receive()
     ensures take { RunsTakeFirst }

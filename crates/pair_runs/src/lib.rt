@@ -4,5 +4,6 @@
 mod laws;
 
 pub use laws::{
-    calls_fail, calls_show, calls_work, rounds_end, runs_agree, runs_keep, runs_receive, wrong_runs,
+    calls_compose, calls_fail, calls_show, calls_work, rounds_end, runs_agree, runs_keep,
+    runs_receive, wrong_runs,
 };
