@@ -65,7 +65,7 @@ line_spares line.Settle puts h = tt
 line_spares (line.Drain bytes) puts h = tt
 line_spares line.Stop puts h = tt
 
-does_tie : (it : Played) (s t : State) (stop : Option Fault) → IsSparing it.what → Kept None s → Tied s → Does it s t stop → TiedBy stop t
+pub does_tie : (it : Played) (s t : State) (stop : Option Fault) → IsSparing it.what → Kept None s → Tied s → Does it s t stop → TiedBy stop t
 does_tie it s t stop h k tied d = go (settles it.what) d
   where
     go : (b : Bool) → DoesBy b it s t stop → TiedBy stop t

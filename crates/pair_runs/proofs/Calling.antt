@@ -100,7 +100,7 @@ pipe_works half item s book (pipes.Makes frame tables) = record {
   took = [];
   inside = takes_same (seen half s book).inside;
   awaits = record { stay = λ e. (refl, refl); begin = λ n. absurd (n refl) };
-  trail = record { side = refl; taken = sym (append-nil book.trail.taken); made = front_more book.trail.made _; copies = front_more book.trail.copies _; lines = refl };
+  trail = record { side = refl; taken = sym (append-nil book.trail.taken); made = front_more book.trail.made _; copies = front_more book.trail.copies _; lines = refl; accepted = omega arith };
   order = front_same book.order;
   silent = λ n. record { accepted = refl; acknowledged = refl; given = refl; order = λ m. refl };
 }

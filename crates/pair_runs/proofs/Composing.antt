@@ -1,5 +1,5 @@
 -- What calls change, one after another.
-use Rattle.std.proofs.Common.{◌≡◌, ◌≢◌, ℕ, Bool, true, false, List, [], ◌∷◌, ◌++◌, refl, sym, ap, subst, ◌∙◌, append_assoc}
+use Rattle.std.proofs.Common.{◌≡◌, ◌≢◌, ℕ, Bool, true, false, List, [], ◌∷◌, ◌++◌, refl, sym, ap, subst, ◌∙◌, append_assoc, arith}
 use Rattle.std.proofs.lemmas.List.{append-nil}
 use Rattle.std.specs.List.{AllByRecursion}
 use Rattle.plain_lists.specs.Fronts.{IsFront}
@@ -33,7 +33,7 @@ pub takes_same : (a : Inside) → Takes [] a a
 takes_same a = record { messages = tt; bytes = refl; handles = end_same a.handles; notes = end_same a.notes; asked = refl; none = λ e. refl }
 
 pub grows_same : (a : TrailRecord) → Grows [] a a
-grows_same a = record { side = refl; taken = sym (append-nil a.taken); made = front_same a.made; copies = front_same a.copies; lines = refl }
+grows_same a = record { side = refl; taken = sym (append-nil a.taken); made = front_same a.made; copies = front_same a.copies; lines = refl; accepted = omega arith }
 
 pub works_same : (hears : Bool) (a : SideState) → Works hears a a
 works_same hears a = record {
@@ -67,6 +67,7 @@ grows_then xs ys {a} {b} {c} h k = record {
   made = front_then h.made k.made;
   copies = front_then h.copies k.copies;
   lines = k.lines ∙ h.lines;
+  accepted = omega (arith, h.accepted, k.accepted);
 }
 
 awaits_begin : (xs ys : List (List ℕ)) (a b c : SideState) → Awaits xs a b → Awaits ys b c → xs ++ ys ≢ [] → (a.copies ≡ []) × (c.loaded ≡ 0)

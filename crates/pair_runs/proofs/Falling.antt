@@ -21,7 +21,7 @@ use Rattle.pair_runs.specs.Moves.{Move, Put, Take, Load, LoadAll, Connect, Conne
 use Rattle.pair_runs.specs.Runs.{round, bytes_of}
 use Rattle.pair_runs.specs.Sides.{SideState, rows_of, fed, all_loaded}
 use Rattle.pair_runs.specs.States.{State, Lanes, Fault, no_lanes, side_at, with_side, wire_at, with_wire, lane_at, with_lane, on_lane, writer, reader, connections}
-use Rattle.pair_runs.specs.Taking.{Cut, behind, piece_size, cut_item, Taker, TakesIn, TakeFails, TakeGoes, TakesAll}
+use Rattle.pair_runs.specs.Taking.{Cut, behind, piece_size, cut_item, Taker, TakesIn, TakeFails, TakeGoes, TakesAll, TakesNone}
 use Rattle.pair_runs.specs.Working.{Works}
 use Rattle.pair_runs.proofs.Weights.{works_weigh, works_left, works_fall, line_weighs, written_weighs, read_weighs, written_none}
 
@@ -96,19 +96,32 @@ less : (b next : Taker) (n : ℕ) → (b ≡ next) ⊎ (taker_left b < taker_lef
 less b next n (inl e) l = omega (arith, ap taker_left e, l)
 less b next n (inr m) l = omega (arith, m, l)
 
-takes_left : (count most : ℕ) (a : SideState) (wire : List PeerIn) (b : Taker) → TakesIn count most a wire b None → weight b.side.book.trail ≤ MOST_WEIGHT
-    → (b ≡ record { side = a; wire = wire }) ⊎ (taker_left b < side_left a + wire_left wire)
-takes_left zero most a wire b h w = inl h.0
-takes_left (suc count) most a [] b h w = absurd h
-takes_left (suc count) most a (item ∷ wire) b h w = elim h.2 [
+-- an item that is taken leaves less
+takes_less : (count most : ℕ) (a : SideState) (item : PeerIn) (wire : List PeerIn) (b : Taker) → TakesIn (suc count) most a (item ∷ wire) b None → weight b.side.book.trail ≤ MOST_WEIGHT
+    → ((next : Taker) → (n : ℕ) → TakesIn count n next.side next.wire b None → (b ≡ next) ⊎ (taker_left b < taker_left next)) → taker_left b < side_left a + wire_left (item ∷ wire)
+takes_less count most a item wire b h w others = elim h.2 [
   | inl fails ↦ absurd (let never : None ≡ Some fails.fault = fails.stops in cc)
   | inr goes ↦
       let it : Cut = cut_item most item wire in
       let weighs : weight goes.mid.book.trail ≤ weight b.side.book.trail = takes_weigh count (most - it.cost) goes.mid it.rest b goes.more in
       let side : side_left goes.mid ≤ side_left (fed it.item a) = works_left false (fed it.item a) goes.mid goes.works (omega (arith, weighs, w)) in
-      inr (less b (record { side = goes.mid; wire = it.rest }) (side_left a + wire_left (item ∷ wire)) (takes_left count (most - it.cost) goes.mid it.rest b goes.more w)
-      (omega (arith, side, cut_left most item wire h.0)))
+      less b (record { side = goes.mid; wire = it.rest }) (side_left a + wire_left (item ∷ wire)) (others (record { side = goes.mid; wire = it.rest }) (most - it.cost) goes.more)
+      (omega (arith, side, cut_left most item wire h.0))
 ]
+
+takes_left : (count most : ℕ) (a : SideState) (wire : List PeerIn) (b : Taker) → TakesIn count most a wire b None → weight b.side.book.trail ≤ MOST_WEIGHT
+    → (b ≡ record { side = a; wire = wire }) ⊎ (taker_left b < side_left a + wire_left wire)
+takes_left zero most a wire b h w = inl h.0
+takes_left (suc count) most a [] b h w = absurd h
+takes_left (suc count) most a (item ∷ wire) b h w = inr (takes_less count most a item wire b h w (λ next n more. takes_left count n next.side next.wire b more w))
+
+-- where nothing was taken nothing could be
+pub takes_quiet : (count most : ℕ) (a : SideState) (wire : List PeerIn) (b : Taker) → TakesIn count most a wire b None → weight b.side.book.trail ≤ MOST_WEIGHT → b ≡ record { side = a; wire = wire } → TakesNone most (record { side = a; wire = wire })
+takes_quiet zero most a wire b h w e = h.2
+takes_quiet (suc count) most a [] b h w e = absurd h
+takes_quiet (suc count) most a (item ∷ wire) b h w e =
+    let l = takes_less count most a item wire b h w (λ next n more. takes_left count n next.side next.wire b more w) in
+    absurd (omega (arith, l, ap taker_left e))
 
 taker_weighs : (side : Side) (b : Taker) (s : State) → Kept None (with_side side b.side (with_wire side b.wire s)) → weight b.side.book.trail ≤ MOST_WEIGHT
 taker_weighs Near b s k = k.0.law.weighs

@@ -231,7 +231,7 @@ given_works given a = record {
   took = [];
   inside = takes_same a.inside;
   awaits = record { stay = λ e. (refl, refl); begin = λ n. absurd (n refl) };
-  trail = record { side = refl; taken = sym (append-nil a.book.trail.taken); made = front_same a.book.trail.made; copies = front_same a.book.trail.copies; lines = refl };
+  trail = record { side = refl; taken = sym (append-nil a.book.trail.taken); made = front_same a.book.trail.made; copies = front_same a.book.trail.copies; lines = refl; accepted = omega arith };
   order = front_same a.book.order;
   silent = λ e. absurd cc;
 }

@@ -17,3 +17,8 @@ pub mod Handing
 pub mod Bringing
 pub mod Receiving
 pub mod More
+pub mod Walking
+pub mod Later
+pub mod Passings
+pub mod Ordering
+pub mod Allowing

@@ -43,6 +43,7 @@ on_same change hears a b w = record {
     made = w.trail.made;
     copies = w.trail.copies;
     lines = ap (λ (lines : Lined). with_rows (change lines.rows) lines) w.trail.lines;
+    accepted = w.trail.accepted;
   };
   order = w.order;
   silent = λ e. record { accepted = (w.silent e).accepted; acknowledged = (w.silent e).acknowledged; given = (w.silent e).given; order = (w.silent e).order };

@@ -21,7 +21,7 @@ use Rattle.pair_laws.specs.Pairs.{IsPair, link_of}
 use Rattle.pair_runs.specs.Kept.{Kept, GoesOn, one_side}
 use Rattle.pair_runs.specs.Linking.{Writes, Reads}
 use Rattle.pair_runs.specs.Loading.{LoadsAll}
-use Rattle.pair_runs.specs.Moves.{Move, Take, LoadAll, ConnectIfHeld, Push, Pull, at_side, LoadedAll, holds, Connected, ConnectedBy, PushedOn, PulledBy, PulledOff, WritesBy, Moves, MovesAll}
+use Rattle.pair_runs.specs.Moves.{Move, Take, LoadAll, ConnectIfHeld, Push, Pull, at_side, Taken, LoadedAll, holds, Connected, ConnectedBy, PushedOn, PulledBy, PulledOff, WritesBy, Moves, MovesAll}
 use Rattle.pair_runs.specs.Quiet.{Carries, Tied, IsDone, QuietIsDone}
 use Rattle.pair_runs.specs.Runs.{round}
 use Rattle.pair_runs.specs.Sides.{SideState, TOKEN, rows_of, last_number, link_record, ring_in}
@@ -30,16 +30,18 @@ use Rattle.pair_runs.proofs.Falling.{quiet_first, round_has, loaded_none}
 
 -- ---- each move of a quiet round
 
-record Quietly (most : ℕ) (s : State) : Type 0 where
-  near : LoadedAll Near s s None
-  far : LoadedAll Far s s None
-  connects : Connected (holds s.near || holds s.far) s s None
-  push_up : PushedOn s.line Up most s s None
-  pull_up : PulledOff s.line Up most s s None
-  push_down : PushedOn s.line Down most s s None
-  pull_down : PulledOff s.line Down most s s None
+pub record Quietly (most : ℕ) (s : State) : Type 0 where
+  pub near_takes : Taken Near most s s None
+  pub far_takes : Taken Far most s s None
+  pub near : LoadedAll Near s s None
+  pub far : LoadedAll Far s s None
+  pub connects : Connected (holds s.near || holds s.far) s s None
+  pub push_up : PushedOn s.line Up most s s None
+  pub pull_up : PulledOff s.line Up most s s None
+  pub push_down : PushedOn s.line Down most s s None
+  pub pull_down : PulledOff s.line Down most s s None
 
-quietly : (most : ℕ) (s : State) → MovesAll (round most) s s None → Quietly most s
+pub quietly : (most : ℕ) (s : State) → MovesAll (round most) s s None → Quietly most s
 quietly most s m0 =
     let h0 = round_has most in
     let h1 = h0.1 in let h2 = h1.1 in let h3 = h2.1 in let h4 = h3.1 in let h5 = h4.1 in let h6 = h5.1 in let h7 = h6.1 in let h8 = h7.1 in
@@ -53,6 +55,8 @@ quietly most s m0 =
     let m8 = quiet_first most (Push Down most) (Pull Down most ∷ []) s h7.0 h8 m7.1 in
     let m9 = quiet_first most (Pull Down most) [] s h8.0 h8.1 m8.1 in
     record {
+      near_takes = m1.0.changes;
+      far_takes = m2.0.changes;
       near = m3.0.changes;
       far = m4.0.changes;
       connects = m5.0.changes;

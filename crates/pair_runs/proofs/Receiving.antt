@@ -82,14 +82,14 @@ line_puts peer line.Settle items e = refl
 line_puts peer (line.Drain bytes) items e = refl
 line_puts peer line.Stop items e = refl
 
-settle_puts : (peer : Side) (what : StepKind) → settles what ≡ true → put_by peer what ≡ []
+pub settle_puts : (peer : Side) (what : StepKind) → settles what ≡ true → put_by peer what ≡ []
 settle_puts peer (line.Await whose count) e = refl
 settle_puts peer line.Settle e = refl
 settle_puts peer (line.Hex whose bytes) e = absurd cc
 settle_puts peer (line.Say whose text) e = absurd cc
 settle_puts peer _ e = refl
 
-does_bring : (it : Played) (near far : List ℕ) (s t : State) (stop : Option Fault) → bytes_in it.puts ≡ put_by Near it.what ++ put_by Far it.what → Both near far s → Does it s t stop → BothBy stop (near ++ put_by Near it.what) (far ++ put_by Far it.what) t
+pub does_bring : (it : Played) (near far : List ℕ) (s t : State) (stop : Option Fault) → bytes_in it.puts ≡ put_by Near it.what ++ put_by Far it.what → Both near far s → Does it s t stop → BothBy stop (near ++ put_by Near it.what) (far ++ put_by Far it.what) t
 does_bring it near far s t stop e h d = go (settles it.what) refl d
   where
     go : (b : Bool) → settles it.what ≡ b → DoesBy b it s t stop → BothBy stop (near ++ put_by Near it.what) (far ++ put_by Far it.what) t
@@ -144,10 +144,10 @@ plays_bring (step ∷ steps) (it ∷ played) most near far s t end lines h p =
 
 -- ---- what was taken
 
-all_plain : (messages : List (List ℕ)) → AllByRecursion IsMessage messages → All IsMessage messages
+pub all_plain : (messages : List (List ℕ)) → AllByRecursion IsMessage messages → All IsMessage messages
 all_plain messages h = All-from_recursion IsMessage messages h
 
-taken_first : (put : List ℕ) (taken : List (List ℕ)) (rest : List ℕ) → Brings put taken rest → IsFront taken (cut put)
+pub taken_first : (put : List ℕ) (taken : List (List ℕ)) (rest : List ℕ) → Brings put taken rest → IsFront taken (cut put)
 taken_first put taken rest h =
     let cuts : Cuts (joined taken ++ rest) (taken ++ cut rest) (cut_rest rest) = cuts-append taken (joined taken) [] rest (cut rest) (cut_rest rest) (messages-cut taken (all_plain taken h.whole)) (cut-cuts rest) in
     record { rest = cut rest; is = sym (cuts-cut (joined taken ++ rest) (taken ++ cut rest) (cut_rest rest) cuts).0 ∙ ap cut h.bytes }

@@ -1,5 +1,5 @@
 -- What the events change that are due inside, one by one and in a row.
-use Rattle.std.proofs.Common.{◌≡◌, ◌≢◌, ℕ, List, [], ◌∷◌, ◌++◌, map, Bool, true, false, not, Option, Some, None, refl, sym, ap, subst, ◌∙◌, append_assoc, if◌then◌else◌, inl, inr, ◌⊎◌}
+use Rattle.std.proofs.Common.{◌≡◌, ◌≢◌, ℕ, List, [], ◌∷◌, ◌++◌, map, Bool, true, false, not, Option, Some, None, refl, sym, ap, subst, ◌∙◌, append_assoc, arith, if◌then◌else◌, inl, inr, ◌⊎◌}
 use Rattle.std.proofs.lemmas.List.{append-nil}
 use Rattle.std.specs.Prelude.{sum_by}
 use Rattle.wp_outside.specs.declared.kinds.Side.{Side}
@@ -45,7 +45,7 @@ heard_works half frame s book = record {
   took = [];
   inside = takes_same (seen half s book).inside;
   awaits = record { stay = λ e. (refl, refl); begin = λ n. absurd (n refl) };
-  trail = record { side = refl; taken = sym (append-nil book.trail.taken); made = front_same book.trail.made; copies = front_same book.trail.copies; lines = refl };
+  trail = record { side = refl; taken = sym (append-nil book.trail.taken); made = front_same book.trail.made; copies = front_same book.trail.copies; lines = refl; accepted = omega arith };
   order = front_more book.order _;
   silent = λ e. absurd cc;
 }
@@ -68,7 +68,7 @@ grouped_works half s book (Some it) e = record {
   took = [];
   inside = takes_same (seen half s book).inside;
   awaits = record { stay = λ n. (sym (ap (map words_in) e), sym (ap (sum_by (loaded_in half)) e)); begin = λ n. absurd (n refl) };
-  trail = record { side = refl; taken = sym (append-nil book.trail.taken); made = front_more book.trail.made it.frames; copies = front_more book.trail.copies it.copies; lines = refl };
+  trail = record { side = refl; taken = sym (append-nil book.trail.taken); made = front_more book.trail.made it.frames; copies = front_more book.trail.copies it.copies; lines = refl; accepted = omega arith };
   order = front_same book.order;
   silent = λ n. record { accepted = refl; acknowledged = refl; given = refl; order = λ m. refl };
 }
@@ -104,7 +104,7 @@ took_works half s book it none taken left = record {
     stay = λ e. absurd cc;
     begin = λ n. (ap (λ (owes : Option Owed). map words_in (awaited owes s.kept.jobs)) none, loaded_none half it.sending.owes it.jobs (left.fresh half));
   };
-  trail = record { side = refl; taken = refl; made = front_same book.trail.made; copies = front_same book.trail.copies; lines = refl };
+  trail = record { side = refl; taken = refl; made = front_same book.trail.made; copies = front_same book.trail.copies; lines = refl; accepted = omega arith };
   order = front_more book.order _;
   silent = λ n. record { accepted = refl; acknowledged = refl; given = refl; order = λ m. absurd cc };
 }
@@ -126,7 +126,7 @@ ended_works half s book (Asked reason) e = record {
     none = λ n. ap (λ asked. record (seen half s book).inside { asked = asked }) (sym (ap (λ closing. not (is_open closing)) e));
   };
   awaits = record { stay = λ n. (refl, refl); begin = λ n. absurd (n refl) };
-  trail = record { side = refl; taken = sym (append-nil book.trail.taken); made = front_more book.trail.made _; copies = front_more book.trail.copies []; lines = refl };
+  trail = record { side = refl; taken = sym (append-nil book.trail.taken); made = front_more book.trail.made _; copies = front_more book.trail.copies []; lines = refl; accepted = omega arith };
   order = front_same book.order;
   silent = λ n. record { accepted = refl; acknowledged = refl; given = refl; order = λ m. refl };
 }

@@ -15,3 +15,4 @@ pub mod RunLaws
 pub mod WrongRuns
 pub mod Agreeing
 pub mod Headline
+pub mod Orders

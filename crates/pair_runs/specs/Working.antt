@@ -27,13 +27,14 @@ pub record Awaits (took : List (List ℕ)) (a b : SideState) : Type 0 where
   pub stay : took ≡ [] → (b.copies ≡ a.copies) × (b.loaded ≡ a.loaded)
   pub begin : took ≢ [] → (a.copies ≡ []) × (b.loaded ≡ 0)
 
--- the records grow at their ends: those of what is taken by just that
+-- the records grow at their ends: those of what is taken by just that; what was accepted stays so
 pub record Grows (took : List (List ℕ)) (a b : TrailRecord) : Type 0 where
   pub side : b.side ≡ a.side
   pub taken : b.taken ≡ a.taken ++ took
   pub made : IsFront a.made b.made
   pub copies : IsFront a.copies b.copies
   pub lines : b.lines ≡ a.lines
+  pub accepted : a.accepted ≤ b.accepted
 
 -- where no frame is heard and no message is given, the records of what is heard and given stay, and
 -- the order of passing while none is taken

@@ -5,6 +5,7 @@ ghost use Rattle.pair_runs.specs.Headline.{RunsTakeFirst, RunsReceive};
 ghost use Rattle.pair_runs.specs.Measure.{RoundFalls};
 ghost use Rattle.pair_runs.specs.MoreLaws.{WorksMore, ReadsMore, WritesMore, BeginsFirst};
 ghost use Rattle.pair_runs.specs.MoreLaws.{GivesNoMore};
+ghost use Rattle.pair_runs.specs.Orders.{RunsAreAllowed};
 ghost use Rattle.pair_runs.specs.Quiet.{QuietIsDone};
 ghost use Rattle.pair_runs.specs.RunLaws.{RunsKeep, SettlesQuietly, DrainsQuietly};
 ghost use Rattle.pair_runs.specs.WorkLaws.{FedWorks, CameWorks, AsksWorks, UpIs, DownIs};
@@ -92,6 +93,12 @@ pub fn runs_agree()
 pub fn runs_receive()
     ensures take { RunsTakeFirst }
     ensures receive { RunsReceive }
+{}
+
+/// While no byte of the line is replaced the orders in which both sides passed messages are allowed
+/// ones: a line that moves all that waits parts what was put before it from what was put behind it.
+pub fn orders_are_allowed()
+    ensures { RunsAreAllowed }
 {}
 
 /// No run skips a break or the number of a connection, makes a connection while one is up, writes
