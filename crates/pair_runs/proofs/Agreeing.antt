@@ -1,22 +1,20 @@
 -- That both sides of a run agree while no byte of the line is replaced.
-use Rattle.std.proofs.Common.{◌≡◌, ℕ, zero, suc, ◌<◌, List, [], ◌∷◌, Bool, true, false, Option, Some, None, refl, sym, ap, subst, ◌∙◌, inl, inr, ◌⊎◌}
+use Rattle.std.proofs.Common.{◌≡◌, ℕ, zero, suc, List, [], ◌∷◌, Bool, true, false, Option, Some, None, sym, subst, inl, inr}
 use Rattle.std.specs.List.{AllByRecursion}
-use Rattle.wp_outside.specs.declared.kinds.Side.TheVariants.{Near, Far}
-use Rattle.wp_outside.specs.declared.kinds.Direction.TheVariants.{Up, Down}
 use Rattle.half_model.specs.declared.items.PeerIn.{PeerIn}
 use Rattle.script_lang.specs.Puts.{is_stop}
 use Rattle.script_lang.specs.declared.steps.StepKind.{StepKind}
 use Rattle.script_lang.specs.declared.steps.StepKind.TheVariants as line
 use Rattle.pair_model.specs.Lines.{Agrees}
-use Rattle.pair_runs.specs.Agreeing.{TiedBy, Spares, MovesTie, IsSparing, SparesAll, RunsAgree}
+use Rattle.pair_runs.specs.Agreeing.{TiedBy, Spares, IsSparing, SparesAll, RunsAgree}
 use Rattle.pair_runs.specs.Kept.{Kept}
-use Rattle.pair_runs.specs.Moves.{Move, Moves, MovesAll}
-use Rattle.pair_runs.specs.Quiet.{Tied, IsDone}
+use Rattle.pair_runs.specs.Moves.{Move, MovesAll}
+use Rattle.pair_runs.specs.Quiet.{Tied}
 use Rattle.pair_runs.specs.RunLaws.{fault_by}
-use Rattle.pair_runs.specs.Runs.{Played, Rounds, Settles, settles, moves_of, Does, DoesBy, End, Drained, Stopped, Fails, end_by, PlaysLine, Plays, Runs, round, MOST, size_after}
+use Rattle.pair_runs.specs.Runs.{Played, Rounds, settles, moves_of, Does, DoesBy, End, Drained, end_by, PlaysLine, Plays, round, MOST, size_after}
 use Rattle.pair_runs.specs.Sides.{rows_of}
 use Rattle.pair_runs.specs.States.{State, Fault, first_state}
-use Rattle.pair_runs.proofs.Keeping.{first_kept, moves_keep, rounds_keep, does_keep, drains_quietly, runs_keep}
+use Rattle.pair_runs.proofs.Keeping.{first_kept, moves_keep, does_keep, drains_quietly, runs_keep}
 use Rattle.pair_runs.proofs.Quieting.{quiet_is_done}
 use Rattle.pair_runs.proofs.Tying.{moves_tie}
 

@@ -2,39 +2,35 @@
 use Rattle.std.proofs.Common.{◌≡◌, ℕ, zero, suc, ◌<◌, ◌≤◌, List, [], ◌∷◌, ◌++◌, take, length, Bool, true, false, Option, Some, None, refl, sym, ap, subst, ◌∙◌, append_assoc, arith, length-append, inl, inr, ◌⊎◌, ⊎_elim, if◌then◌else◌}
 use Rattle.std.proofs.lemmas.List.{append-nil, take_all}
 use Rattle.plain_lists.specs.Fronts.{IsFront}
-use Rattle.wp_outside.specs.declared.kinds.Side.{Side}
 use Rattle.wp_outside.specs.declared.kinds.Side.TheVariants.{Near, Far}
 use Rattle.wl_tables.specs.declared.way.Way.{Way}
 use Rattle.wl_tables.specs.declared.way.Way.TheVariants.{Request, Event}
-use Rattle.wl_wire.specs.Wire.{cut, joined}
+use Rattle.wl_wire.specs.Wire.{cut}
 use Rattle.wl_objects.specs.Registry.{first_state, visible}
-use Rattle.script_lang.specs.Puts.{is_stop, put_by, before_stop, put_by_all, puts}
+use Rattle.script_lang.specs.Puts.{is_stop, put_by, before_stop, put_by_all}
 use Rattle.script_lang.specs.declared.steps.Step.{Step}
 use Rattle.script_lang.specs.declared.steps.StepKind.{StepKind}
-use Rattle.side_model.specs.declared.fault.ProxyFault.{ProxyFault}
-use Rattle.pair_model.specs.Lines.{Agrees}
 use Rattle.pair_laws.specs.Pairs.{OneSide, IsPair}
 use Rattle.pair_laws.specs.Passing.{of_way, passing_by}
 use Rattle.pair_laws.specs.Received.{Prefixes}
 use Rattle.pair_laws.proofs.Passing.{order_has_both}
 use Rattle.pair_laws.proofs.Places.{front_all}
 use Rattle.pair_laws.proofs.Receiving.{receives_prefixes}
-use Rattle.pair_runs.specs.Agreeing.{IsSparing, SparesAll, TiedBy}
+use Rattle.pair_runs.specs.Agreeing.{IsSparing, SparesAll}
 use Rattle.pair_runs.specs.Headline.{TakesFirst, fault_of, Receives}
-use Rattle.pair_runs.specs.Kept.{Kept, GoesOn, one_side}
+use Rattle.pair_runs.specs.Kept.{Kept, one_side}
 use Rattle.pair_runs.specs.Moves.{Move, MovesAll}
-use Rattle.pair_runs.specs.Orders.{Parts, BothPart, Allowed, RunsAreAllowed}
+use Rattle.pair_runs.specs.Orders.{BothPart, Allowed, RunsAreAllowed}
 use Rattle.pair_runs.specs.Quiet.{Tied, IsDone}
 use Rattle.pair_runs.specs.RunLaws.{fault_by}
-use Rattle.pair_runs.specs.Runs.{Played, Rounds, Settles, settles, moves_of, Does, DoesBy, End, Stopped, Fails, end_by, PlaysLine, Plays, AreLines, Runs, round, MOST, size_after, bytes_in}
-use Rattle.pair_runs.specs.Sides.{SideState, rows_of}
-use Rattle.pair_runs.specs.States.{State, Fault, first_state as first_of_all, side_at, wire_at}
+use Rattle.pair_runs.specs.Runs.{Played, Rounds, Settles, settles, moves_of, Does, DoesBy, End, end_by, PlaysLine, Plays, AreLines, Runs, round, MOST, size_after, bytes_in}
+use Rattle.pair_runs.specs.States.{State, Fault, first_state as first_of_all}
 use Rattle.pair_runs.proofs.Agreeing.{does_tie}
 use Rattle.pair_runs.proofs.Bringing as bring
 use Rattle.pair_runs.proofs.Bringing.{Both, BothBy, both_part}
 use Rattle.pair_runs.proofs.Keeping.{first_kept, does_keep, settles_quietly}
-use Rattle.pair_runs.proofs.Later.{Shut, Grown, Later, LaterPart, later_steps}
-use Rattle.pair_runs.proofs.Ordering.{two_fronts, way_front, LaterOrders, later_orders, HasOrders, has_orders, all_or_shut}
+use Rattle.pair_runs.proofs.Later.{Shut, Later, LaterPart, later_steps}
+use Rattle.pair_runs.proofs.Ordering.{way_front, LaterOrders, later_orders, HasOrders, has_orders, all_or_shut}
 use Rattle.pair_runs.proofs.Quieting.{Quietly, quietly, quiet_is_done}
 use Rattle.pair_runs.proofs.Receiving.{settle_puts, does_bring, taken_first, runs_take_first, runs_receive}
 use Rattle.pair_runs.proofs.Tying.{moves_tie}

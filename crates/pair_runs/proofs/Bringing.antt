@@ -1,30 +1,27 @@
 -- That what each side took, and what waits, are the bytes that its peer put; and so what is received.
-use Rattle.std.proofs.Common.{◌≡◌, ℕ, zero, suc, ◌-◌, List, [], ◌∷◌, ◌++◌, take, drop, length, Bool, true, false, is_none, ◌&&◌, ◌||◌, Option, Some, None, refl, sym, ap, subst, ◌∙◌, append_assoc, inl, inr, ◌⊎◌, if◌then◌else◌}
+use Rattle.std.proofs.Common.{◌≡◌, ℕ, zero, suc, ◌-◌, List, [], ◌∷◌, ◌++◌, take, drop, length, Bool, true, false, is_none, ◌&&◌, ◌||◌, Option, Some, None, refl, sym, ap, subst, ◌∙◌, append_assoc, inl, inr}
 use Rattle.std.proofs.lemmas.List.{append-nil}
 use Rattle.std.proofs.lemmas.List.Concat.{flat_map-append}
 use Rattle.std.specs.Prelude.{flat_map}
 use Rattle.std.specs.List.{AllByRecursion}
-use Rattle.plain_lists.specs.Fronts.{IsFront}
 use Rattle.wp_outside.specs.declared.kinds.Direction.{Direction}
-use Rattle.wp_outside.specs.declared.kinds.Direction.TheVariants.{Up, Down}
 use Rattle.wp_outside.specs.declared.kinds.Side.{Side}
 use Rattle.wp_outside.specs.declared.kinds.Side.TheVariants.{Near, Far}
-use Rattle.wl_wire.specs.Wire.{cut, joined, IsMessage}
+use Rattle.wl_wire.specs.Wire.{joined, IsMessage}
 use Rattle.half_model.specs.declared.items.PeerIn.{PeerIn}
 use Rattle.script_lang.specs.Puts.{if_peer}
 use Rattle.half_model.specs.declared.items.PeerIn.TheVariants as items
 use Rattle.side_model.specs.declared.fault.ProxyFault.{ProxyFault}
 use Rattle.pair_runs.specs.Headline.{Brings, waiting}
-use Rattle.pair_runs.specs.Linking.{with_line, Writes, WritesInPart, Reads, ReadsInPart, written, read}
-use Rattle.pair_runs.specs.Loading.{LoadsIn, LoadsAllIn, Loads, LoadsAll}
-use Rattle.pair_runs.specs.Moves.{Move, Put, Take, Load, LoadAll, Connect, ConnectIfHeld, Break, Push, Pull, Spoil, Close, at_side, Taken, Loaded, LoadedThen, LoadedAll, holds, LineInPart, ConnectFails, ConnectBy, ConnectedBy, Connected, WritesBy, PushedOn, PulledBy, PulledOff, ClosedBy, Closed, Changes, Moves, MovesAll, spoiled}
+use Rattle.pair_runs.specs.Linking.{Reads, read}
+use Rattle.pair_runs.specs.Loading.{LoadsIn, LoadsAllIn, Loads}
+use Rattle.pair_runs.specs.Moves.{Move, Put, Take, Load, LoadAll, Connect, ConnectIfHeld, Break, Push, Pull, Spoil, Close, at_side, Taken, Loaded, LoadedThen, LoadedAll, holds, LineInPart, ConnectFails, ConnectBy, ConnectedBy, Connected, WritesBy, PushedOn, PulledBy, PulledOff, ClosedBy, Closed, Changes, MovesAll, spoiled}
 use Rattle.pair_runs.specs.Runs.{bytes_of, bytes_in}
 use Rattle.pair_runs.specs.Sides.{SideState, fed, asked, all_loaded}
 use Rattle.pair_runs.specs.States.{State, Lanes, Fault, side_at, with_side, wire_at, with_wire, lane_at, on_lane, writer, reader, connections}
-use Rattle.pair_runs.specs.Taking.{Cut, behind, piece_size, cut_item, Taker, TakesIn, TakesAll}
+use Rattle.pair_runs.specs.Taking.{Cut, behind, piece_size, cut_item, Taker, TakesIn}
 use Rattle.pair_runs.specs.Working.{Works, WorksInPart}
 use Rattle.pair_runs.proofs.Composing.{joined_then, all_then}
-use Rattle.pair_runs.proofs.Ends.{front_more, front_then}
 
 -- ---- one side
 

@@ -1,41 +1,36 @@
 -- What each good call of a proxy with its records is in a run.
-use Rattle.std.proofs.Common.{◌≡◌, ◌≢◌, ℕ, ◌≤◌, List, [], ◌∷◌, ◌++◌, map, take, length, Bool, true, false, not, Option, Some, None, Result, Ok, Err, refl, sym, ap, subst, ◌∙◌, arith, if◌then◌else◌, inl, inr, ◌⊎◌}
+use Rattle.std.proofs.Common.{◌≡◌, ℕ, List, [], ◌∷◌, take, length, Bool, true, false, not, Option, Some, None, Ok, Err, refl, sym, ap, subst, ◌∙◌, arith, inl, inr}
 use Rattle.std.proofs.lemmas.List.{append-nil, map-append}
-use Rattle.std.specs.Option.{MatchOption}
 use Rattle.handle_table.specs.declared.handles.Handle.{Handle}
 use Rattle.shm_pools.specs.declared.notes.Note.{Note}
 use Rattle.wp_outside.specs.declared.pipe_items.PipeItem.{PipeItem}
 use Rattle.wp_outside.specs.declared.pipe_items.PipeItem.TheVariants as pieces
 use Rattle.half_model.specs.declared.items.PeerIn.{PeerIn}
 use Rattle.half_model.specs.declared.items.PeerIn.TheVariants as items
-use Rattle.half_model.specs.declared.items.PeerOut.{PeerOut}
-use Rattle.half_model.specs.declared.items.PeerOut.TheVariants as outputs
 use Rattle.half_model.specs.PipeTurn as pipes
 use Rattle.half_model.specs.PipeTurn.{PipeTurn, pipe_turn}
-use Rattle.pair_model.specs.Steps.{Here, on_last, with_written}
+use Rattle.pair_model.specs.Steps.{Here}
 use Rattle.side_model.specs.declared.fault.ProxyFault.{ProxyFault}
 use Rattle.side_model.specs.Books.{Book, rows_read, rows_written, grown, grow_all, closed}
 use Rattle.side_model.specs.Calls.{Part, Row, CallsBarred, CallsAfter, Calls, barred}
 use Rattle.side_model.specs.Due.{hear, next}
-use Rattle.side_model.specs.Events.{Event, Fed, Handed, Lent, Up, Down, Came, Went, Gave, Asks, Chose, Rest}
-use Rattle.side_model.specs.Follows.{is_message}
+use Rattle.side_model.specs.Events.{Event, Fed, Up, Came, Went, Asks, Chose, Rest}
 use Rattle.side_model.specs.Marks.{mark_pipe, mark_dropped}
 use Rattle.side_model.specs.RowLaws.{AtMostChose}
-use Rattle.side_model.specs.Shows.{front_of, front_here, unless_fault, next_item, is_open}
+use Rattle.side_model.specs.Shows.{front_of, front_here, unless_fault, is_open}
 use Rattle.side_model.specs.Sound.{Admits}
-use Rattle.side_model.specs.State.{Now, LivePart, Closing, Open, Asked, Made}
+use Rattle.side_model.specs.State.{Now, Closing, Open, Asked, Made}
 use Rattle.side_model.specs.Steps as steps
 use Rattle.side_model.specs.Steps.{step, fed_pipe, gone}
-use Rattle.side_model.specs.Trails as trails
-use Rattle.side_model.specs.Trails.{TrailState, with_notes, Keeps, Done, RunsTrail, TrailAfter, TrailCalls, trail_step, Sends, lent_room, RunsLends, LendsAfter, Lends}
+use Rattle.side_model.specs.Trails.{TrailState, with_notes, Done, TrailAfter, TrailCalls, RunsLends, LendsAfter}
 use Rattle.side_model.proofs.Calms.{up_rests, went_then_chooses}
-use Rattle.side_model.proofs.Dues.{IsQuiet, AllRest, all_rest, is_quiet, hears_none}
+use Rattle.side_model.proofs.Dues.{IsQuiet, all_rest, is_quiet, hears_none}
 use Rattle.side_model.proofs.RowProofs.{none_after}
-use Rattle.pair_runs.specs.Linking.{with_line, written, read}
+use Rattle.pair_runs.specs.Linking.{written, read}
 use Rattle.pair_runs.specs.Sides.{SideState, fed, asked, seen, side_seen, with_inside}
-use Rattle.pair_runs.specs.WorkLaws.{RunsOn, FedWorks, CameWorks, AsksWorks, UpIs, DownIs, LendsIs, SendsIs, GaveWorks}
+use Rattle.pair_runs.specs.WorkLaws.{RunsOn, FedWorks, CameWorks, AsksWorks, UpIs, DownIs, LendsIs, SendsIs}
 use Rattle.pair_runs.specs.Working.{Works}
-use Rattle.pair_runs.proofs.Composing.{grows_same, takes_same, works_same, works_then}
+use Rattle.pair_runs.proofs.Composing.{takes_same, works_same, works_then}
 use Rattle.pair_runs.proofs.Ends.{front_same, front_more}
 use Rattle.pair_runs.proofs.Rowing.{row_works, quiet_row, marked_book}
 

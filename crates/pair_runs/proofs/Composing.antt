@@ -1,12 +1,11 @@
 -- What calls change, one after another.
-use Rattle.std.proofs.Common.{◌≡◌, ◌≢◌, ℕ, Bool, true, false, List, [], ◌∷◌, ◌++◌, refl, sym, ap, subst, ◌∙◌, append_assoc, arith}
+use Rattle.std.proofs.Common.{◌≡◌, ◌≢◌, ℕ, Bool, true, false, List, [], ◌∷◌, ◌++◌, refl, sym, ap, ◌∙◌, append_assoc, arith}
 use Rattle.std.proofs.lemmas.List.{append-nil}
 use Rattle.std.specs.List.{AllByRecursion}
-use Rattle.plain_lists.specs.Fronts.{IsFront}
 use Rattle.wl_wire.specs.Wire.{joined, IsMessage}
 use Rattle.side_model.specs.Books.{TrailRecord}
 use Rattle.pair_runs.specs.Sides.{Inside, SideState}
-use Rattle.pair_runs.specs.Working.{IsEnd, Takes, Awaits, Grows, Silent, Works}
+use Rattle.pair_runs.specs.Working.{Takes, Awaits, Grows, Silent, Works}
 use Rattle.pair_runs.proofs.Ends.{front_same, front_then, end_same, end_then}
 
 -- ---- lists of messages

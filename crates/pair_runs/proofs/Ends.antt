@@ -1,5 +1,5 @@
 -- Fronts and ends of lists, one after another.
-use Rattle.std.proofs.Common.{◌≡◌, List, [], ◌∷◌, ◌++◌, map, refl, sym, ap, ◌∙◌, append_assoc}
+use Rattle.std.proofs.Common.{List, [], ◌∷◌, ◌++◌, map, refl, sym, ap, ◌∙◌, append_assoc}
 use Rattle.std.proofs.lemmas.List.{append-nil, map-append}
 use Rattle.plain_lists.specs.Fronts.{IsFront}
 use Rattle.pair_runs.specs.Working.{IsEnd}

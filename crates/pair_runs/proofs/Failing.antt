@@ -1,13 +1,9 @@
 -- What each call of a proxy with its records leaves in a run that meets a fault.
-use Rattle.std.proofs.Common.{◌≡◌, ℕ, List, [], ◌∷◌, ◌++◌, Bool, true, false, Option, Some, None, Result, Ok, Err, refl, sym, ap, subst, ◌∙◌, append_assoc, arith, inl, inr, ◌⊎◌}
-use Rattle.std.proofs.lemmas.List.{append-nil}
-use Rattle.plain_lists.specs.Fronts.{IsFront}
+use Rattle.std.proofs.Common.{◌≡◌, ℕ, List, [], ◌∷◌, ◌++◌, true, Option, Some, None, Err, refl, sym, ap, subst, ◌∙◌, append_assoc, arith, inl, inr, ◌⊎◌}
 use Rattle.wl_wire.specs.Wire.{joined, IsMessage}
 use Rattle.wp_outside.specs.declared.kinds.Side.{Side}
-use Rattle.half_model.specs.declared.items.PeerIn.{PeerIn}
-use Rattle.pair_model.specs.Steps.{Here}
 use Rattle.side_model.specs.declared.fault.ProxyFault.{ProxyFault}
-use Rattle.side_model.specs.Books.{Book, grown, grow_all, closed, weight, MOST_WEIGHT}
+use Rattle.side_model.specs.Books.{Book, grown, grow_all, closed}
 use Rattle.side_model.specs.Calls.{Part}
 use Rattle.side_model.specs.declared.fault.ProxyFault.TheVariants as faults
 use Rattle.side_model.specs.declared.fault.ProxyFault.TheVariants.{Memory}
@@ -15,15 +11,15 @@ use Rattle.side_model.specs.Events.{Event, Fed, Handed, Up, Came, Asks}
 use Rattle.side_model.specs.Records.{Law, IndexIs}
 use Rattle.side_model.specs.State.{Now}
 use Rattle.side_model.specs.Steps.{step}
-use Rattle.side_model.specs.Trails.{TrailState, step_all, FailsNow, FailsSo, HeavyAtOnce, HeavyThen, Failed, FailedAtOnce, NoMemory, StopsRecording, LacksMemory, Fails, RunsTrail, TrailAfter, TrailCalls, Begun, NotLent, TooHeavyFront, LendsAfter, Keeps}
+use Rattle.side_model.specs.Trails.{TrailState, step_all, FailsNow, FailsSo, HeavyAtOnce, HeavyThen, Failed, FailedAtOnce, NoMemory, StopsRecording, LacksMemory, TrailAfter, TrailCalls, NotLent, TooHeavyFront, LendsAfter}
 use Rattle.side_model.proofs.Parts.{part_at}
 use Rattle.side_model.proofs.Calms.{up_rests}
 use Rattle.side_model.proofs.RowProofs.{none_after}
-use Rattle.side_model.proofs.TrailParts.{NotRun, ran, same_weight}
-use Rattle.pair_runs.specs.Linking.{read, RefusesPiece}
+use Rattle.side_model.proofs.TrailParts.{ran, same_weight}
+use Rattle.pair_runs.specs.Linking.{RefusesPiece}
 use Rattle.pair_runs.specs.Moves.{LineInPart}
 use Rattle.pair_runs.specs.Sides.{SideState, fed, asked, seen, side_seen}
-use Rattle.pair_runs.specs.WorkLaws.{RunsOn, FailsInPart, FedFails, CameFails, AsksFails, HandedFails, UpFails, LendsFails, KeptByFault}
+use Rattle.pair_runs.specs.WorkLaws.{RunsOn, FedFails, CameFails, AsksFails, HandedFails, UpFails, LendsFails, KeptByFault}
 use Rattle.pair_runs.specs.Working.{Works, WorksInPart}
 use Rattle.pair_runs.proofs.Calling.{fed_base, came_base, asks_base}
 use Rattle.pair_runs.proofs.Composing.{all_then, joined_then, grows_same, grows_then, may_hear}

@@ -1,8 +1,7 @@
 -- What is left falls with each move of a round that changes something.
-use Rattle.std.proofs.Common.{◌≡◌, ◌≢◌, ℕ, zero, suc, ◌+◌, ◌-◌, ◌*◌, ◌<◌, ◌≤◌, min, List, [], ◌∷◌, ◌++◌, take, drop, length, Bool, true, false, is_none, ◌&&◌, ◌||◌, Option, Some, None, option_map, refl, sym, ap, subst, ◌∙◌, arith, length-drop, length-take, inl, inr, ◌⊎◌, if◌then◌else◌}
+use Rattle.std.proofs.Common.{◌≡◌, ◌≢◌, ℕ, zero, suc, ◌+◌, ◌-◌, ◌<◌, ◌≤◌, List, [], ◌∷◌, ◌++◌, take, drop, length, Bool, true, false, is_none, ◌&&◌, ◌||◌, Option, Some, None, option_map, refl, sym, ap, subst, ◌∙◌, arith, length-drop, inl, inr, ◌⊎◌}
 use Rattle.std.proofs.lemmas.List.{append-nil}
 use Rattle.std.proofs.lemmas.List.Sums.{sum_by-cons}
-use Rattle.std.specs.Prelude.{sum_by}
 use Rattle.std.specs.List.{AllByRecursion}
 use Rattle.wp_outside.specs.declared.kinds.Direction.{Direction}
 use Rattle.wp_outside.specs.declared.kinds.Direction.TheVariants.{Up, Down}
@@ -11,19 +10,17 @@ use Rattle.wp_outside.specs.declared.kinds.Side.TheVariants.{Near, Far}
 use Rattle.half_model.specs.declared.items.PeerIn.{PeerIn}
 use Rattle.half_model.specs.declared.items.PeerIn.TheVariants as items
 use Rattle.side_model.specs.declared.fault.ProxyFault.{ProxyFault}
-use Rattle.side_model.specs.Books.{MOST_WEIGHT, weight, ITEM_WEIGHT}
-use Rattle.side_model.specs.Sound.{MOST_PIECE}
+use Rattle.side_model.specs.Books.{MOST_WEIGHT, weight}
 use Rattle.pair_runs.specs.Kept.{Kept}
-use Rattle.pair_runs.specs.Linking.{with_line, Writes, Reads, written, read}
-use Rattle.pair_runs.specs.Loading.{LoadsAllIn, LoadsAll, LoadFails, LoadGoes}
+use Rattle.pair_runs.specs.Linking.{with_line, Writes, written, read}
+use Rattle.pair_runs.specs.Loading.{LoadsAllIn, LoadsAll}
 use Rattle.pair_runs.specs.Measure.{item_left, wire_left, copies_left, side_left, left, Falls, RoundFalls}
-use Rattle.pair_runs.specs.Moves.{Move, Put, Take, Load, LoadAll, Connect, ConnectIfHeld, Break, Push, Pull, Spoil, Close, at_side, Taken, LoadedAll, holds, Connected, PushedOn, PulledBy, PulledOff, Changes, Moves, MovesAll, WritesBy, ConnectBy, ConnectedBy}
-use Rattle.pair_runs.specs.Runs.{round, bytes_of}
-use Rattle.pair_runs.specs.Sides.{SideState, rows_of, fed, all_loaded}
-use Rattle.pair_runs.specs.States.{State, Lanes, Fault, no_lanes, side_at, with_side, wire_at, with_wire, lane_at, with_lane, on_lane, writer, reader, connections}
-use Rattle.pair_runs.specs.Taking.{Cut, behind, piece_size, cut_item, Taker, TakesIn, TakeFails, TakeGoes, TakesAll, TakesNone}
-use Rattle.pair_runs.specs.Working.{Works}
-use Rattle.pair_runs.proofs.Weights.{works_weigh, works_left, works_fall, line_weighs, written_weighs, read_weighs, written_none}
+use Rattle.pair_runs.specs.Moves.{Move, Take, LoadAll, ConnectIfHeld, Push, Pull, at_side, Taken, LoadedAll, holds, Connected, PushedOn, PulledBy, PulledOff, Changes, Moves, MovesAll, WritesBy, ConnectedBy}
+use Rattle.pair_runs.specs.Runs.{round}
+use Rattle.pair_runs.specs.Sides.{SideState, fed, all_loaded}
+use Rattle.pair_runs.specs.States.{State, Lanes, no_lanes, side_at, with_side, wire_at, with_wire, lane_at, with_lane, on_lane, writer, reader, connections}
+use Rattle.pair_runs.specs.Taking.{Cut, behind, piece_size, cut_item, Taker, TakesIn, TakesAll, TakesNone}
+use Rattle.pair_runs.proofs.Weights.{works_weigh, works_left, line_weighs, written_weighs, read_weighs, written_none}
 
 -- ---- one after another
 

@@ -1,31 +1,29 @@
 -- What copies that are lent and handed back, and items that are given, are in a run.
-use Rattle.std.proofs.Common.{◌≡◌, ℕ, ◌+◌, List, [], ◌∷◌, ◌++◌, map, length, Bool, true, false, ◌&&◌, cond, eqb, Option, Some, None, Result, Ok, Err, refl, sym, ap, subst, ◌∙◌, arith, if◌then◌else◌, inl, inr, ◌⊎◌}
-use Rattle.std.proofs.lemmas.Bool.{false≢true, eqb-true}
+use Rattle.std.proofs.Common.{◌≡◌, ℕ, List, [], ◌∷◌, map, length, Bool, true, false, ◌&&◌, cond, eqb, Option, Some, None, refl, sym, ap, subst, ◌∙◌, arith, if◌then◌else◌}
+use Rattle.std.proofs.lemmas.Bool.{eqb-true}
 use Rattle.std.proofs.lemmas.List.{append-nil}
 use Rattle.std.proofs.lemmas.List.Sums.{sum_by-cons}
 use Rattle.std.specs.Prelude.{sum_by}
 use Rattle.std.specs.Option.{MatchOption}
-use Rattle.std.specs.List.{AllByRecursion, list_all}
+use Rattle.std.specs.List.{AllByRecursion}
 use Rattle.half_model.specs.declared.items.PeerOut.{PeerOut}
 use Rattle.half_model.specs.declared.items.PeerOut.TheVariants as outputs
 use Rattle.half_model.specs.Group.{Owed}
 use Rattle.half_model.specs.Jobs.{Job, JobState, Waits, IsOut, IsBack, Done, waits, is_out, is_back, lent, is_done, handed, all_back}
 use Rattle.half_model.specs.Turn.{made_of, group_due}
 use Rattle.side_model.specs.Books.{Book, grown, closed, given_item, given_after}
-use Rattle.side_model.specs.Calls.{Part}
-use Rattle.side_model.specs.Due.{hear, group, treat, end, choose, next}
-use Rattle.side_model.specs.Events.{Event, Handed, Lent, Gave, Rest}
+use Rattle.side_model.specs.Due.{treat, end, choose, next}
+use Rattle.side_model.specs.Events.{Handed, Gave, Rest}
 use Rattle.side_model.specs.Follows.{is_message}
-use Rattle.side_model.specs.Shows.{next_item, first_item}
-use Rattle.side_model.specs.State.{Now, LivePart}
+use Rattle.side_model.specs.Shows.{next_item}
+use Rattle.side_model.specs.State.{Now}
 use Rattle.side_model.specs.Steps.{step, gone}
-use Rattle.side_model.specs.Trails.{TrailState, trail_step}
-use Rattle.side_model.proofs.Dues.{AllRest, all_rest, rests, groups_none, no_group_due}
+use Rattle.side_model.proofs.Dues.{AllRest, all_rest, rests, groups_none}
 use Rattle.pair_runs.specs.Sides.{SideState, awaited, loaded_by, loaded_in, words_in, seen, side_seen, all_loaded}
-use Rattle.pair_runs.specs.WorkLaws.{RunsOn, LentIs, HandedIs, HandedWorks, NoneOut, GaveWorks}
+use Rattle.pair_runs.specs.WorkLaws.{LentIs, HandedIs, HandedWorks, NoneOut, GaveWorks}
 use Rattle.pair_runs.specs.Working.{Works}
-use Rattle.pair_runs.proofs.Calling.{Ran, ran_by, quiet_work, quiet_still, still_is}
-use Rattle.pair_runs.proofs.Composing.{grows_same, takes_same, works_same}
+use Rattle.pair_runs.proofs.Calling.{ran_by, quiet_work, quiet_still, still_is}
+use Rattle.pair_runs.proofs.Composing.{takes_same}
 use Rattle.pair_runs.proofs.Ends.{front_same}
 
 -- a side with these jobs awaited

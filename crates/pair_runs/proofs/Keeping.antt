@@ -1,19 +1,18 @@
 -- What is kept through a run.
-use Rattle.std.proofs.Common.{◌≡◌, ◌≢◌, ℕ, zero, suc, ◌<◌, max, List, [], ◌∷◌, Bool, true, false, Option, Some, None, refl, sym, ap, subst, ◌∙◌, arith, inl, inr, ◌⊎◌}
+use Rattle.std.proofs.Common.{◌≡◌, ℕ, zero, suc, ◌<◌, List, [], ◌∷◌, Bool, true, false, Option, Some, None, refl, sym, subst, arith, inl, inr}
 use Rattle.wp_outside.specs.declared.kinds.Side.{Side}
 use Rattle.wp_outside.specs.declared.kinds.Side.TheVariants.{Near, Far}
 use Rattle.script_lang.specs.Puts.{is_stop}
 use Rattle.script_lang.specs.declared.steps.StepKind.{StepKind}
 use Rattle.script_lang.specs.declared.steps.StepKind.TheVariants as line
-use Rattle.side_model.specs.Trails.{no_records, Keeps}
+use Rattle.side_model.specs.Trails.{no_records}
 use Rattle.side_model.proofs.TrailParts.{keeps_at_first}
 use Rattle.pair_runs.specs.Kept.{Kept, GoesOn}
-use Rattle.pair_runs.specs.Moves.{Move, Moves, MovesAll}
+use Rattle.pair_runs.specs.Moves.{Move, MovesAll}
 use Rattle.pair_runs.specs.RunLaws.{fault_by, RunsKeep, SettlesQuietly, DrainsQuietly}
-use Rattle.pair_runs.specs.Runs.{Played, Rounds, Settles, settles, moves_of, Does, DoesBy, End, Drained, Stopped, Fails, end_by, PlaysLine, Plays, Runs, round, MOST, size_after}
-use Rattle.pair_runs.specs.Sides.{TOKEN, first_side, side_seen}
+use Rattle.pair_runs.specs.Runs.{Played, Rounds, Settles, settles, moves_of, Does, DoesBy, End, Drained, Stopped, Fails, end_by, PlaysLine, Plays, round, MOST, size_after}
+use Rattle.pair_runs.specs.Sides.{TOKEN, first_side}
 use Rattle.pair_runs.specs.States.{State, Fault, first_state}
-use Rattle.pair_runs.specs.WorkLaws.{RunsOn}
 use Rattle.pair_runs.proofs.Showing.{kept_by_calls}
 
 -- ---- at first

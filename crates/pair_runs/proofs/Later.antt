@@ -1,5 +1,5 @@
 -- What a side's records are later in a run: they have grown at their ends; and once it was asked to close, and nothing whole waits inside, it takes no more.
-use Rattle.std.proofs.Common.{◌≡◌, ◌≢◌, ℕ, ◌≤◌, List, [], ◌∷◌, ◌++◌, Bool, true, false, not, ◌&&◌, Option, Some, None, Ok, refl, sym, ap, subst, ◌∙◌, append_assoc, arith, inl, inr, ◌⊎◌}
+use Rattle.std.proofs.Common.{◌≡◌, ℕ, ◌≤◌, List, [], ◌∷◌, ◌++◌, Bool, true, false, not, ◌&&◌, Some, Ok, refl, sym, ap, ◌∙◌, append_assoc, arith}
 use Rattle.std.proofs.lemmas.List.{append-nil}
 use Rattle.std.specs.List.{AllByRecursion}
 use Rattle.plain_lists.specs.Fronts.{IsFront}
@@ -8,11 +8,10 @@ use Rattle.wl_wire.proofs.FrontLemmas.{first-message}
 use Rattle.half_model.specs.Turn.{stands_in}
 use Rattle.half_model.specs.declared.items.PeerIn.{PeerIn}
 use Rattle.side_model.specs.Books.{TrailRecord}
-use Rattle.pair_model.specs.Lines.{Line}
 use Rattle.pair_runs.specs.Kept.{waits}
 use Rattle.pair_runs.specs.Sides.{Inside, SideState, is_free, wants, fed, asked, on_rows}
-use Rattle.pair_runs.specs.Working.{Takes, Grows, Works, WorksInPart}
-use Rattle.pair_runs.proofs.Ends.{front_same, front_more, front_then}
+use Rattle.pair_runs.specs.Working.{Grows, Works, WorksInPart}
+use Rattle.pair_runs.proofs.Ends.{front_then}
 use Rattle.pair_runs.proofs.Walking.{Steps}
 
 -- it was asked to close, and no whole message waits

@@ -1,11 +1,11 @@
 -- Lines of which the last one changes, and that those of both sides still agree.
-use Rattle.std.proofs.Common.{◌≡◌, ◌≢◌, ℕ, suc, ◌+◌, ◌<◌, ◌≤◌, cond, eqb, Bool, true, false, List, [], ◌∷◌, ◌++◌, refl, sym, ap, subst, ◌∙◌, arith, append_assoc, inl, inr, ◌⊎◌}
+use Rattle.std.proofs.Common.{◌≡◌, ◌≢◌, ℕ, suc, ◌<◌, ◌≤◌, cond, eqb, Bool, true, false, List, [], ◌∷◌, ◌++◌, refl, sym, ap, subst, ◌∙◌, arith, append_assoc, inl, inr, ◌⊎◌}
 use Rattle.std.proofs.lemmas.Bool.{cases_eq}
 use Rattle.std.specs.List.{AllByRecursion}
 use Rattle.plain_lists.specs.Fronts.{IsFront}
 use Rattle.pair_model.specs.Lines.{Line, Rising, Agrees, written_on, read_on}
 use Rattle.pair_model.specs.Steps.{on_last, with_written, with_read}
-use Rattle.pair_model.proofs.LastLine.{on_last-push, written_last, read_last, written_before, read_before, written_none, read_none}
+use Rattle.pair_model.proofs.LastLine.{on_last-push, written_last, read_last, written_before, read_before, read_none}
 use Rattle.pair_runs.specs.Linking.{new_line}
 use Rattle.pair_runs.specs.Sides.{last_number}
 use Rattle.pair_runs.proofs.Ends.{front_same, front_more, front_then}

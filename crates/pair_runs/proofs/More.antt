@@ -1,23 +1,22 @@
 -- That calls one after another are one move, and where a proxy begins and what it still has to give.
-use Rattle.std.proofs.Common.{◌≡◌, ℕ, List, [], ◌∷◌, ◌++◌, Bool, true, false, Option, Some, None, Result, Ok, refl, sym, ap, subst, ◌∙◌, append_assoc, inl, inr, ◌⊎◌}
+use Rattle.std.proofs.Common.{◌≡◌, ℕ, List, [], ◌∷◌, ◌++◌, Bool, true, Option, Some, None, Ok, refl, sym, ap, subst, ◌∙◌, append_assoc}
 use Rattle.half_model.specs.declared.items.PeerIn.{PeerIn}
 use Rattle.half_model.specs.declared.items.PeerIn.TheVariants as items
-use Rattle.half_model.specs.declared.items.PeerOut.{PeerOut}
 use Rattle.half_model.specs.PipeTurn as pipes
 use Rattle.half_model.specs.PipeTurn.{PipeTurn, pipe_turn}
 use Rattle.half_model.specs.Turn as turns
 use Rattle.half_model.specs.Turn.{Turn, turn, MadeGroup, group_due}
 use Rattle.pair_model.specs.Lines.{Line}
 use Rattle.pair_model.specs.Steps.{on_last, with_written, with_read}
-use Rattle.side_model.specs.Books.{TrailRecord, Lined, with_rows}
+use Rattle.side_model.specs.Books.{Lined, with_rows}
 use Rattle.side_model.specs.Calls.{Part}
 use Rattle.side_model.specs.Due.{hear, next}
-use Rattle.side_model.specs.Events.{Event, Fed, Handed, Asks, Took, Grouped, Ended, Chose, Do, Rest}
+use Rattle.side_model.specs.Events.{Event, Fed, Handed, Asks, Do, Rest}
 use Rattle.side_model.specs.State.{Now, Closing, Open, Asked, Made}
 use Rattle.side_model.specs.Steps.{step, fed_pipe, took, grouped, ended}
-use Rattle.side_model.specs.Trails.{TrailState, with_notes, Done, TrailCalls}
+use Rattle.side_model.specs.Trails.{TrailState, TrailCalls}
 use Rattle.side_model.proofs.Dues.{DueIn, InHear, InGroup, InTreat, InEnd, InChoose, due_in, group_is_due, turn_due, end_is_due, choice_due}
-use Rattle.pair_runs.specs.Linking.{written, read}
+use Rattle.pair_runs.specs.Linking.{read}
 use Rattle.pair_runs.specs.MoreLaws.{WorksMore, ReadsMore, WritesMore, BeginsFirst, GivesNoMore}
 use Rattle.pair_runs.specs.Sides.{SideState, on_rows}
 use Rattle.pair_runs.specs.WorkLaws.{RunsOn}

@@ -1,5 +1,5 @@
 -- That the orders of a run grow at their ends, and what they have where nothing is left to move.
-use Rattle.std.proofs.Common.{◌≡◌, ℕ, zero, suc, ◌+◌, ◌<◌, ◌≤◌, List, [], ◌∷◌, ◌++◌, map, take, drop, length, Bool, true, false, not, ◌&&◌, Option, Some, None, Result, Ok, Err, refl, sym, ap, subst, ◌∙◌, append_assoc, arith, length-append, length-drop, inl, inr, ◌⊎◌, ⊎_elim}
+use Rattle.std.proofs.Common.{◌≡◌, ℕ, ◌<◌, ◌≤◌, List, [], ◌∷◌, ◌++◌, map, drop, length, Bool, true, false, not, ◌&&◌, Option, Some, None, Result, Ok, Err, refl, sym, ap, subst, ◌∙◌, append_assoc, arith, length-drop, inl, inr, ◌⊎◌}
 use Rattle.std.proofs.lemmas.List.{append-nil, length-map, take_all, nil_from_length}
 use Rattle.std.proofs.lemmas.List.Concat.{flat_map-append}
 use Rattle.std.proofs.lemmas.List.Elements.{filter_map-append}
@@ -8,19 +8,16 @@ use Rattle.wp_outside.specs.declared.kinds.Side.{Side}
 use Rattle.wp_outside.specs.declared.kinds.Side.TheVariants.{Near, Far}
 use Rattle.wl_tables.specs.declared.way.Way.{Way}
 use Rattle.wl_tables.specs.declared.way.Way.TheVariants.{Request, Event}
-use Rattle.wl_tables.specs.Ways.{own_way}
 use Rattle.wl_wire.specs.declared.faults.WireFault.{WireFault}
-use Rattle.wl_wire.specs.Wire.{first, cut, cut_rest, joined, IsMessage, Cuts}
+use Rattle.wl_wire.specs.Wire.{first, cut, cut_rest, joined, Cuts}
 use Rattle.wl_wire.proofs.Cutting.{cut-cuts, cuts-cut, cuts-append, messages-cut}
 use Rattle.wl_wire.proofs.CuttingLaws.{cut-waits}
 use Rattle.wl_objects.specs.Registry.{first_state, visible}
 use Rattle.transfer_frames.specs.declared.frame.Frame.{Frame}
 use Rattle.transfer_frames.specs.Grammar.{spelling}
 use Rattle.half_model.specs.declared.items.PeerIn.{PeerIn}
-use Rattle.half_model.specs.Sides.{other_way}
 use Rattle.half_model.specs.Story.{accepted_in, messages_in, messages_of, order_in}
 use Rattle.half_model.specs.Turn.{stands_in}
-use Rattle.pair_model.specs.RingState.{RingState}
 use Rattle.side_model.specs.declared.fault.ProxyFault.{ProxyFault}
 use Rattle.side_model.specs.Due.{has_room}
 use Rattle.side_model.specs.Books.{weight, MOST_WEIGHT}
@@ -28,14 +25,12 @@ use Rattle.side_model.specs.Shows.{is_empty}
 use Rattle.pair_laws.specs.Auditing.{EachHeard}
 use Rattle.pair_laws.specs.Everything.{HasAll, IsDrained}
 use Rattle.pair_laws.specs.Pairs.{OneSide, IsLawful, IsPair}
-use Rattle.pair_laws.specs.Passing.{of_way, if_way, passing, passing_by}
+use Rattle.pair_laws.specs.Passing.{of_way, if_way, passing_by}
 use Rattle.pair_laws.specs.Received.{messages, received_by}
 use Rattle.pair_laws.proofs.Auditing.{each_heard}
 use Rattle.pair_laws.proofs.Everything.{drained_has_everything}
 use Rattle.pair_laws.proofs.Passing.{order_is_told, order_has_both}
-use Rattle.pair_laws.proofs.Places.{front_all}
 use Rattle.pair_laws.proofs.Saying.{received_messages}
-use Rattle.pair_runs.specs.Headline.{Brings}
 use Rattle.pair_runs.specs.Kept.{Kept, GoesOn, one_side, waits}
 use Rattle.pair_runs.specs.Moves.{at_side, Taken}
 use Rattle.pair_runs.specs.Quiet.{IsDone}
@@ -45,7 +40,7 @@ use Rattle.pair_runs.specs.States.{State, side_at, with_side, wire_at, with_wire
 use Rattle.pair_runs.specs.Taking.{Taker, TakesAll, TakesNone}
 use Rattle.pair_runs.proofs.Bringing.{BringsAt}
 use Rattle.pair_runs.proofs.Falling.{weighs, takes_quiet}
-use Rattle.pair_runs.proofs.Later.{Shut, Grown}
+use Rattle.pair_runs.proofs.Later.{Shut}
 use Rattle.pair_runs.proofs.Passings.{passing_front}
 use Rattle.pair_runs.proofs.Receiving.{all_plain}
 

@@ -1,5 +1,5 @@
 -- That the order told by longer records begins with that told by the first of them.
-use Rattle.std.proofs.Common.{◌≡◌, ℕ, suc, ◌+◌, ◌<◌, ◌≤◌, List, [], ◌∷◌, ◌++◌, length, map, Some, None, refl, sym, ap, subst, ◌∙◌, arith, inl, inr, ◌⊎◌}
+use Rattle.std.proofs.Common.{◌≡◌, ℕ, ◌≤◌, List, [], ◌∷◌, ◌++◌, length, sym, ap, ◌∙◌, arith}
 use Rattle.plain_lists.specs.Fronts.{IsFront}
 use Rattle.wp_outside.specs.declared.kinds.Side.{Side}
 use Rattle.wp_outside.specs.declared.kinds.Side.TheVariants.{Near, Far}

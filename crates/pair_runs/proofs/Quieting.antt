@@ -1,5 +1,5 @@
 -- Where a round changes nothing, nothing is left.
-use Rattle.std.proofs.Common.{◌≡◌, ◌≢◌, ℕ, zero, suc, ◌+◌, ◌<◌, ◌≤◌, List, [], ◌∷◌, ◌++◌, map, take, drop, length, Bool, true, false, not, is_none, ◌&&◌, ◌||◌, Option, Some, None, option_map, refl, sym, ap, subst, ◌∙◌, arith, length-append, length-drop, inl, inr, ◌⊎◌, if◌then◌else◌}
+use Rattle.std.proofs.Common.{◌≡◌, ℕ, zero, suc, ◌<◌, ◌≤◌, List, [], ◌∷◌, ◌++◌, map, take, drop, length, Bool, true, false, not, is_none, ◌&&◌, ◌||◌, Option, Some, None, option_map, refl, sym, ap, subst, ◌∙◌, arith, length-append, length-drop, inl, inr, ◌⊎◌}
 use Rattle.std.proofs.lemmas.List.{append-nil, nil_from_length, length-map}
 use Rattle.std.specs.Option.{MatchOption}
 use Rattle.wp_outside.specs.declared.kinds.Direction.{Direction}
@@ -7,22 +7,19 @@ use Rattle.wp_outside.specs.declared.kinds.Direction.TheVariants.{Up, Down}
 use Rattle.wp_outside.specs.declared.kinds.Side.{Side}
 use Rattle.wp_outside.specs.declared.kinds.Side.TheVariants.{Near, Far}
 use Rattle.transfer_frames.specs.Grammar.{spelling}
-use Rattle.pair_model.specs.Lines.{SideRecord, read_on, written_on}
+use Rattle.pair_model.specs.Lines.{SideRecord, read_on}
 use Rattle.pair_model.specs.Quiet.{NoFront, AllRead, DrainedLink}
 use Rattle.pair_model.specs.Wire.{Sees}
 use Rattle.pair_model.proofs.Done.{quiet_is_done as link_is_done}
 use Rattle.side_model.specs.declared.fault.ProxyFault.{ProxyFault}
-use Rattle.side_model.specs.Books.{weight, MOST_WEIGHT}
 use Rattle.side_model.specs.Places.{places_in, side_of}
 use Rattle.side_model.specs.Records.{Law}
 use Rattle.side_model.specs.Shows.{is_empty}
-use Rattle.pair_laws.specs.Everything.{Drained, IsDrained}
-use Rattle.pair_laws.specs.Pairs.{IsPair, link_of}
-use Rattle.pair_runs.specs.Kept.{Kept, GoesOn, one_side}
-use Rattle.pair_runs.specs.Linking.{Writes, Reads}
+use Rattle.pair_laws.specs.Pairs.{IsPair}
+use Rattle.pair_runs.specs.Kept.{Kept, one_side}
 use Rattle.pair_runs.specs.Loading.{LoadsAll}
-use Rattle.pair_runs.specs.Moves.{Move, Take, LoadAll, ConnectIfHeld, Push, Pull, at_side, Taken, LoadedAll, holds, Connected, ConnectedBy, PushedOn, PulledBy, PulledOff, WritesBy, Moves, MovesAll}
-use Rattle.pair_runs.specs.Quiet.{Carries, Tied, IsDone, QuietIsDone}
+use Rattle.pair_runs.specs.Moves.{Take, LoadAll, ConnectIfHeld, Push, Pull, at_side, Taken, LoadedAll, holds, Connected, ConnectedBy, PushedOn, PulledBy, PulledOff, WritesBy, MovesAll}
+use Rattle.pair_runs.specs.Quiet.{Carries, Tied, QuietIsDone}
 use Rattle.pair_runs.specs.Runs.{round}
 use Rattle.pair_runs.specs.Sides.{SideState, TOKEN, rows_of, last_number, link_record, ring_in}
 use Rattle.pair_runs.specs.States.{State, Lanes, side_at, with_side, lane_at, with_lane, on_lane, writer, reader}

@@ -1,5 +1,5 @@
 -- What the peers of a run have received.
-use Rattle.std.proofs.Common.{◌≡◌, ℕ, zero, suc, List, [], ◌∷◌, ◌++◌, Bool, true, false, Option, Some, None, refl, sym, ap, subst, ◌∙◌, append_assoc, inl, inr, ◌⊎◌, if◌then◌else◌}
+use Rattle.std.proofs.Common.{◌≡◌, ℕ, zero, suc, List, [], ◌∷◌, ◌++◌, Bool, true, false, Option, Some, None, refl, sym, ap, subst, ◌∙◌, append_assoc, inl, inr, if◌then◌else◌}
 use Rattle.std.proofs.lemmas.List.{append-nil}
 use Rattle.std.proofs.lemmas.List.Elements.{All-from_recursion}
 use Rattle.std.specs.Prelude.{All}
@@ -14,21 +14,18 @@ use Rattle.script_lang.specs.Puts.{if_peer, is_stop, put_by, before_stop, put_by
 use Rattle.script_lang.specs.declared.steps.Step.{Step}
 use Rattle.script_lang.specs.declared.steps.StepKind.{StepKind}
 use Rattle.script_lang.specs.declared.steps.StepKind.TheVariants as line
-use Rattle.side_model.specs.declared.fault.ProxyFault.{ProxyFault}
 use Rattle.pair_model.specs.Lines.{Agrees}
 use Rattle.pair_laws.specs.Pairs.{IsPair}
 use Rattle.pair_laws.specs.Received.{Prefixes}
 use Rattle.pair_laws.proofs.Receiving.{receives_prefixes}
-use Rattle.pair_runs.specs.Agreeing.{SparesAll}
-use Rattle.pair_runs.specs.Headline.{Brings, TakesFirst, RunsTakeFirst, fault_of, Receives, RunsReceive}
+use Rattle.pair_runs.specs.Headline.{Brings, TakesFirst, RunsTakeFirst, fault_of, RunsReceive}
 use Rattle.pair_runs.specs.Kept.{Kept, KeptAt, one_side}
-use Rattle.pair_runs.specs.Moves.{Move, Put, MovesAll}
 use Rattle.pair_runs.specs.RunLaws.{fault_by}
-use Rattle.pair_runs.specs.Runs.{Played, Rounds, Settles, settles, moves_of, Does, DoesBy, End, Stopped, end_by, PlaysLine, Plays, AreLines, Runs, round, MOST, size_after, bytes_in}
-use Rattle.pair_runs.specs.Sides.{SideState, rows_of}
+use Rattle.pair_runs.specs.Runs.{Played, Rounds, settles, moves_of, Does, DoesBy, End, PlaysLine, Plays, AreLines, round, MOST, size_after, bytes_in}
+use Rattle.pair_runs.specs.Sides.{rows_of}
 use Rattle.pair_runs.specs.States.{State, Fault, first_state}
 use Rattle.pair_runs.proofs.Agreeing.{runs_agree}
-use Rattle.pair_runs.proofs.Bringing.{Both, BothPart, BothBy, BringsPart, both_part, both_more, put_in_move, put_in, moves_bring}
+use Rattle.pair_runs.proofs.Bringing.{Both, BothPart, BothBy, both_part, both_more, put_in, moves_bring}
 use Rattle.pair_runs.proofs.Ends.{front_then}
 use Rattle.pair_runs.proofs.Keeping.{runs_keep}
 

@@ -1,32 +1,30 @@
 -- What the events change that are due inside, one by one and in a row.
-use Rattle.std.proofs.Common.{◌≡◌, ◌≢◌, ℕ, List, [], ◌∷◌, ◌++◌, map, Bool, true, false, not, Option, Some, None, refl, sym, ap, subst, ◌∙◌, append_assoc, arith, if◌then◌else◌, inl, inr, ◌⊎◌}
+use Rattle.std.proofs.Common.{◌≡◌, ℕ, List, [], ◌∷◌, ◌++◌, map, Bool, true, false, not, Option, Some, None, refl, sym, ap, subst, ◌∙◌, arith, if◌then◌else◌, inl, inr}
 use Rattle.std.proofs.lemmas.List.{append-nil}
 use Rattle.std.specs.Prelude.{sum_by}
 use Rattle.wp_outside.specs.declared.kinds.Side.{Side}
 use Rattle.transfer_frames.specs.declared.frame.Frame.{Frame}
 use Rattle.half_model.specs.Group.{Owed}
 use Rattle.half_model.specs.Jobs.{Job, all_back}
-use Rattle.half_model.specs.Log as marks
 use Rattle.half_model.specs.Log.{Mark}
 use Rattle.half_model.specs.Turn as turns
 use Rattle.half_model.specs.Turn.{Turn, turn, Treated, MadeGroup, made_of, group_due}
 use Rattle.half_model.specs.TurnLaws.{IsTaken}
 use Rattle.half_model.proofs.Turns.{turn_is_lawful}
 use Rattle.pair_model.specs.RingState.{RingState}
-use Rattle.side_model.specs.Books.{Book, TrailRecord, marked_trail, marked_order, grown, grow_all, with_rows, closed}
+use Rattle.side_model.specs.Books.{Book, marked_trail, marked_order, grown, grow_all}
 use Rattle.side_model.specs.Calls.{Part}
-use Rattle.side_model.specs.Due.{hear, is_free, has_room, next}
-use Rattle.side_model.specs.Events.{Event, Heard, Took, Grouped, Ended, Chose, Do, Rest}
-use Rattle.side_model.specs.Marks.{mark_of, mark_taken, mark_grouped, mark_ended}
-use Rattle.side_model.specs.RowLaws.{IsWork}
+use Rattle.side_model.specs.Due.{hear, is_free}
+use Rattle.side_model.specs.Events.{Event, Heard, Chose, Do, Rest}
+use Rattle.side_model.specs.Marks.{mark_taken, mark_grouped, mark_ended}
 use Rattle.side_model.specs.Shows.{is_open}
 use Rattle.side_model.specs.State.{Now, Closing, Open, Asked, Made}
 use Rattle.side_model.specs.Steps.{step, took, grouped, ended}
 use Rattle.side_model.proofs.Dues.{DueIn, InHear, InGroup, InTreat, InEnd, InChoose, due_in, FrameDue, frame_due, GroupDue, group_is_due, TurnDue, turn_due, EndDue, end_is_due, ChoiceDue, choice_due, is_quiet, hears_none}
 use Rattle.side_model.proofs.Quiets.{quiet_worked, quiet_chose}
-use Rattle.pair_runs.specs.Sides.{SideState, awaited, loaded_in, words_in, seen}
+use Rattle.pair_runs.specs.Sides.{awaited, loaded_in, words_in, seen}
 use Rattle.pair_runs.specs.Working.{Works}
-use Rattle.pair_runs.proofs.Composing.{takes_same, grows_same, works_same, works_then, may_hear}
+use Rattle.pair_runs.proofs.Composing.{takes_same, works_same, works_then, may_hear}
 use Rattle.pair_runs.proofs.Ends.{front_same, front_more, end_same, end_map}
 use Rattle.pair_runs.proofs.Turning.{LeftBy, left_by}
 

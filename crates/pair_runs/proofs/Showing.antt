@@ -1,48 +1,45 @@
 -- What a proxy shows of itself between two calls is what its side in a run is said to do.
-use Rattle.std.proofs.Common.{◌≡◌, ℕ, ◌+◌, ◌≤◌, List, [], ◌∷◌, ◌++◌, map, drop, length, Bool, true, false, not, ◌&&◌, is_none, Option, Some, None, refl, sym, ap, subst, ◌∙◌, arith, length-drop, inl, inr, ◌⊎◌, if◌then◌else◌}
+use Rattle.std.proofs.Common.{◌≡◌, ℕ, List, [], ◌∷◌, ◌++◌, map, drop, length, Bool, true, false, not, ◌&&◌, is_none, Option, Some, None, refl, sym, ap, subst, ◌∙◌, arith, length-drop, inl, inr, if◌then◌else◌}
 use Rattle.std.proofs.lemmas.List.{append-nil, length-map}
 use Rattle.std.specs.Prelude.{count_by}
 use Rattle.std.specs.Option.{MatchOption}
 use Rattle.transfer_frames.specs.declared.frame.Frame.{Frame}
 use Rattle.transfer_frames.specs.Grammar.{spelling}
-use Rattle.half_model.specs.Filling.{Part, parts_of}
+use Rattle.half_model.specs.Filling.{Part}
 use Rattle.half_model.specs.Group.{Owed}
 use Rattle.half_model.specs.ItemLaws.{given_in}
 use Rattle.half_model.specs.declared.items.PeerOut.{PeerOut}
 use Rattle.half_model.specs.Jobs.{Job, all_back}
 use Rattle.half_model.specs.Log.{LogState}
-use Rattle.half_model.specs.Story.{accepted_in, messages_in}
+use Rattle.half_model.specs.Story.{accepted_in}
 use Rattle.half_model.specs.StoryLaws.{now}
 use Rattle.half_model.specs.Turn as turns
 use Rattle.half_model.specs.Turn.{turn, waits_in, made_of, group_due}
-use Rattle.half_model.specs.TurnLaws.{JobsOf}
 use Rattle.pair_model.specs.Lines.{Line, SideRecord}
 use Rattle.pair_model.specs.Quiet.{NoFront}
 use Rattle.pair_model.specs.RingState.{RingState, IsRingOf, ring_made}
-use Rattle.pair_model.specs.Steps.{Here, Stands, Between, Idle}
-use Rattle.pair_model.specs.Wire.{Wire, Sees}
+use Rattle.pair_model.specs.Steps.{Here, Idle}
+use Rattle.pair_model.specs.Wire.{Wire}
 use Rattle.pair_model.proofs.Idling.{idle_no_front}
 use Rattle.side_model.specs.declared.fault.ProxyFault.{ProxyFault}
-use Rattle.side_model.specs.Books.{Book, TrailRecord, closed, weight, MOST_WEIGHT}
+use Rattle.side_model.specs.Books.{TrailRecord, closed}
 use Rattle.side_model.specs.Due as due
 use Rattle.side_model.specs.Due.{has_room, treat, end, end_on, next}
 use Rattle.side_model.specs.Events.{Rest}
 use Rattle.side_model.specs.Follows.{Follows, JobsFollow, LinkFollows, Rests, is_message}
-use Rattle.side_model.specs.Places.{places_in, side_of, no_places}
+use Rattle.side_model.specs.Places.{places_in, side_of}
 use Rattle.side_model.specs.Resting.{Calm, NothingToSend}
-use Rattle.side_model.specs.Shows.{has_made_close, wants_peer, front_of, front_here, unless_fault, is_open, is_empty}
+use Rattle.side_model.specs.Shows.{has_made_close, front_here, unless_fault, is_open, is_empty}
 use Rattle.side_model.specs.State.{Now, Closing, Open, Asked, Made}
-use Rattle.side_model.specs.Trails as trails
 use Rattle.side_model.specs.Trails.{TrailState}
 use Rattle.side_model.proofs.Calms.{rest_is_calm, idle_waits}
-use Rattle.side_model.proofs.Dues.{AllRest, all_rest, is_quiet, IsQuiet, no_group_due, turn_idle}
+use Rattle.side_model.proofs.Dues.{all_rest, is_quiet, IsQuiet, no_group_due, turn_idle}
 use Rattle.side_model.proofs.Links.{link_down}
 use Rattle.side_model.proofs.TrailParts.{follows_room, same_weight}
-use Rattle.pair_laws.specs.Everything.{GaveAll}
 use Rattle.pair_laws.proofs.Receiving.{meant_count}
 use Rattle.pair_laws.proofs.Saying.{meant_length}
-use Rattle.pair_runs.specs.Kept.{GoesOn, owed_words}
-use Rattle.pair_runs.specs.Sides.{TOKEN, is_free, awaited, words_in, seen, side_seen, wants, ring_in, rows_of, last_number, link_record}
+use Rattle.pair_runs.specs.Kept.{owed_words}
+use Rattle.pair_runs.specs.Sides.{TOKEN, is_free, awaited, words_in, side_seen, ring_in, last_number, link_record}
 use Rattle.pair_runs.specs.WorkLaws.{RunsOn, WantsIs, NothingLent, KeptByCalls}
 
 -- ---- copies

@@ -1,5 +1,5 @@
 -- What a message that is taken leaves of what waits inside, and of its copies.
-use Rattle.std.proofs.Common.{◌≡◌, ℕ, ◌+◌, List, [], ◌∷◌, ◌++◌, map, Bool, true, false, nat_lt, Option, Some, None, Result, Ok, Err, refl, subst, arith, if◌then◌else◌}
+use Rattle.std.proofs.Common.{◌≡◌, ℕ, ◌+◌, List, [], ◌∷◌, map, Bool, true, false, nat_lt, Option, Some, None, Result, Ok, Err, refl, subst, arith, if◌then◌else◌}
 use Rattle.std.specs.Prelude.{sum_by, slice_index_or}
 use Rattle.std.proofs.lemmas.List.Sums.{sum_by-cons}
 use Rattle.wp_outside.specs.declared.kinds.HandleKind.{HandleKind}
@@ -9,21 +9,20 @@ use Rattle.wl_wire.specs.Wire.{first}
 use Rattle.wl_objects.specs.Tracking.{Admission, step}
 use Rattle.wl_tables.specs.Ways.{own_way}
 use Rattle.handle_table.specs.declared.handles.Handle.{Handle}
-use Rattle.shm_pools.specs.declared.notes.Note.{Note}
 use Rattle.pool_words.specs.Views.{EyeState}
 use Rattle.half_model.specs.declared.deeds.Deed.{Deed}
 use Rattle.half_model.specs.declared.deeds.Deed.TheVariants.{Commit, Keymap}
 use Rattle.half_model.specs.Deeds.{deed_of}
 use Rattle.half_model.specs.Filling.{Part, parts_of}
-use Rattle.half_model.specs.Group.{Owed, owed_by, note_refusal}
+use Rattle.half_model.specs.Group.{Owed, owed_by}
 use Rattle.half_model.specs.Inlet.{Inlet, without_ready, handles_left, notes_left, inlet_after, handle_for, note_for, eyes_in, end_of}
 use Rattle.half_model.specs.Jobs.{Job, job_of, jobs_of, no_eye}
 use Rattle.half_model.specs.Planning.{Plan, Refusal, plan_passed, kind_carried}
 use Rattle.half_model.specs.Tables.{Tables}
-use Rattle.half_model.specs.Turn.{Sending, Turn, Idle, Refuses, Takes, Treated, unless_refused, treated_by, turn_eyes, turn_planned, turn_step, turn_front, turn_unless, turn}
+use Rattle.half_model.specs.Turn.{Sending, Turn, Idle, Refuses, Takes, Treated, unless_refused, treated_by, turn_planned, turn_step, turn_front, turn_unless, turn}
 use Rattle.pair_runs.specs.Sides.{loaded_in}
 use Rattle.pair_runs.specs.Working.{IsEnd}
-use Rattle.pair_runs.proofs.Ends.{end_same, end_one, end_map}
+use Rattle.pair_runs.proofs.Ends.{end_same, end_one}
 
 -- ---- handles and notes
 

@@ -1,7 +1,6 @@
 -- That the lines of both sides stay tied to what waits on the line, move by move.
-use Rattle.std.proofs.Common.{◌≡◌, ◌≢◌, ℕ, zero, suc, ◌+◌, ◌-◌, ◌<◌, ◌≤◌, max, List, [], ◌∷◌, ◌++◌, take, drop, length, Bool, true, false, is_none, ◌&&◌, ◌||◌, Option, Some, None, option_map, refl, sym, ap, subst, ◌∙◌, arith, append_assoc, inl, inr, ◌⊎◌, if◌then◌else◌}
+use Rattle.std.proofs.Common.{◌≡◌, ◌≢◌, ℕ, zero, suc, ◌-◌, ◌<◌, List, [], ◌∷◌, ◌++◌, take, drop, length, Bool, true, false, is_none, ◌&&◌, ◌||◌, Option, Some, None, option_map, refl, sym, ap, subst, ◌∙◌, arith, append_assoc, inl, inr}
 use Rattle.std.proofs.lemmas.List.{append-nil}
-use Rattle.std.specs.Option.{MatchOption}
 use Rattle.std.specs.List.{AllByRecursion}
 use Rattle.wp_outside.specs.declared.kinds.Direction.{Direction}
 use Rattle.wp_outside.specs.declared.kinds.Direction.TheVariants.{Up, Down}
@@ -14,13 +13,13 @@ use Rattle.side_model.specs.declared.fault.ProxyFault.{ProxyFault}
 use Rattle.side_model.specs.Books.{Book, Lined}
 use Rattle.pair_runs.specs.Agreeing.{TiedBy, Spares, MovesTie}
 use Rattle.pair_runs.specs.Kept.{Kept}
-use Rattle.pair_runs.specs.Linking.{new_line, with_line, written, read, Reads, ReadsInPart}
-use Rattle.pair_runs.specs.Loading.{LoadsIn, LoadsAllIn, Loads, LoadsAll}
-use Rattle.pair_runs.specs.Moves.{Move, Put, Take, Load, LoadAll, Connect, ConnectIfHeld, Break, Push, Pull, Spoil, Close, at_side, Taken, Loaded, LoadedThen, LoadedAll, holds, LineInPart, ConnectFails, ConnectBy, ConnectedBy, Connected, WritesBy, PushedOn, PulledBy, PulledOff, ClosedBy, Closed, Changes, Moves}
+use Rattle.pair_runs.specs.Linking.{new_line, with_line, read, ReadsInPart}
+use Rattle.pair_runs.specs.Loading.{LoadsIn, LoadsAllIn}
+use Rattle.pair_runs.specs.Moves.{Move, Put, Take, Load, LoadAll, Connect, ConnectIfHeld, Break, Push, Pull, Spoil, Close, at_side, Taken, Loaded, LoadedThen, LoadedAll, holds, ConnectFails, ConnectBy, ConnectedBy, Connected, WritesBy, PushedOn, PulledBy, PulledOff, ClosedBy, Closed, Changes}
 use Rattle.pair_runs.specs.Quiet.{Carries, TiedLines, Tied}
 use Rattle.pair_runs.specs.Sides.{SideState, rows_of, last_number, fed, asked, all_loaded}
 use Rattle.pair_runs.specs.States.{State, Lanes, Fault, no_lanes, first_state, side_at, with_side, wire_at, with_wire, lane_at, with_lane, on_lane, writer, reader, connections}
-use Rattle.pair_runs.specs.Taking.{cut_item, Taker, TakesIn, TakesAll}
+use Rattle.pair_runs.specs.Taking.{cut_item, Taker, TakesIn}
 use Rattle.pair_runs.specs.Working.{Works, WorksInPart}
 use Rattle.pair_runs.proofs.Lines.{HasLast, has_last, all_below, last_changed, read_written, written_read, written_there, read_there, swapped, written_agrees, read_agrees, line_agrees, new_read, new_written, none_read}
 use Rattle.pair_runs.proofs.Showing.{last_push}

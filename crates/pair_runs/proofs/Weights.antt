@@ -1,21 +1,20 @@
 -- What a change adds to the weight of the records, and takes from what is left.
-use Rattle.std.proofs.Common.{◌≡◌, ◌≢◌, ℕ, ◌+◌, ◌*◌, ◌<◌, ◌≤◌, List, [], ◌∷◌, ◌++◌, Bool, true, false, length, refl, sym, ap, subst, ◌∙◌, arith, length-append, inl, inr, ◌⊎◌}
-use Rattle.std.proofs.lemmas.List.{append-nil, nil_from_length}
+use Rattle.std.proofs.Common.{◌≡◌, ◌≢◌, ℕ, ◌+◌, ◌*◌, ◌<◌, ◌≤◌, List, [], ◌∷◌, ◌++◌, Bool, false, length, refl, sym, ap, ◌∙◌, arith, length-append, inl, inr, ◌⊎◌}
+use Rattle.std.proofs.lemmas.List.{append-nil}
 use Rattle.std.proofs.lemmas.List.Sums.{sum_by-append, sum_by_push, sum_by-cons}
 use Rattle.std.specs.Prelude.{sum_by}
 use Rattle.std.specs.List.{AllByRecursion}
 use Rattle.transfer_frames.specs.declared.frame.Frame.{Frame}
-use Rattle.transfer_frames.specs.Grammar.{spelling}
 use Rattle.pair_model.proofs.Rows.{spelling_long}
 use Rattle.wl_wire.specs.Wire.{IsMessage}
 use Rattle.half_model.specs.declared.notes.CopyRecord.{CopyRecord}
 use Rattle.pair_model.specs.Lines.{Line}
 use Rattle.pair_model.specs.Steps.{on_last, with_written, with_read}
-use Rattle.side_model.specs.Books.{Book, TrailRecord, Lined, MOST_WEIGHT, weight, spelled, line_weight, ITEM_WEIGHT}
+use Rattle.side_model.specs.Books.{TrailRecord, Lined, MOST_WEIGHT, weight, spelled, line_weight, ITEM_WEIGHT}
 use Rattle.pair_runs.specs.Linking.{new_line, with_line, written, read}
 use Rattle.pair_runs.specs.Measure.{copies_left, side_left}
-use Rattle.pair_runs.specs.Sides.{SideState, rows_of, with_trail, on_rows, fed, asked}
-use Rattle.pair_runs.specs.Working.{Takes, Awaits, Grows, Silent, Works}
+use Rattle.pair_runs.specs.Sides.{SideState, rows_of, on_rows}
+use Rattle.pair_runs.specs.Working.{Awaits, Grows, Silent, Works}
 
 -- ---- messages and frames
 

@@ -1,20 +1,19 @@
 -- Moves that no run has.
-use Rattle.std.proofs.Common.{◌≡◌, ◌≢◌, ℕ, zero, suc, ◌+◌, ◌-◌, ◌<◌, ◌≤◌, List, [], ◌∷◌, ◌++◌, take, drop, length, Bool, true, false, is_none, ◌&&◌, Option, Some, None, refl, sym, ap, subst, ◌∙◌, arith, length-drop, inl, inr, ◌⊎◌, if◌then◌else◌}
+use Rattle.std.proofs.Common.{◌≡◌, ◌≢◌, ℕ, zero, suc, ◌+◌, ◌-◌, ◌<◌, ◌≤◌, List, [], ◌∷◌, drop, length, true, false, is_none, ◌&&◌, Option, Some, None, refl, sym, ap, subst, ◌∙◌, arith, length-drop, inl, inr}
 use Rattle.std.proofs.lemmas.List.{nil_from_length}
 use Rattle.wp_outside.specs.declared.kinds.Direction.TheVariants.{Up}
-use Rattle.wp_outside.specs.declared.kinds.Side.TheVariants.{Near, Far}
+use Rattle.wp_outside.specs.declared.kinds.Side.TheVariants.{Near}
 use Rattle.half_model.specs.declared.items.PeerIn.{PeerIn}
 use Rattle.half_model.specs.declared.items.PeerIn.TheVariants as items
-use Rattle.pair_model.specs.Lines.{Line}
 use Rattle.pair_model.specs.Quiet.{NoFront}
 use Rattle.side_model.specs.declared.fault.ProxyFault.{ProxyFault}
 use Rattle.side_model.specs.Books.{weight}
-use Rattle.pair_runs.specs.Linking.{new_line, with_line, Writes}
-use Rattle.pair_runs.specs.Loading.{LoadsIn, Loads, LoadFails, LoadGoes}
-use Rattle.pair_runs.specs.Moves.{Moves, Take, Load, Connect, Break, Push, at_side, Taken, Loaded, LoadedThen, Connected, ConnectedBy, PushedOn, WritesBy}
+use Rattle.pair_runs.specs.Linking.{new_line, Writes}
+use Rattle.pair_runs.specs.Loading.{LoadsIn, Loads}
+use Rattle.pair_runs.specs.Moves.{at_side, Taken, Loaded, LoadedThen, ConnectedBy, PushedOn, WritesBy}
 use Rattle.pair_runs.specs.Sides.{SideState, TOKEN, rows_of, last_number, link_record, wants, words_left}
 use Rattle.pair_runs.specs.States.{State, Lanes, connections}
-use Rattle.pair_runs.specs.Taking.{Cut, cut_item, behind, piece_size, Taker, TakesIn, TakesAll, TakeFails, TakeGoes}
+use Rattle.pair_runs.specs.Taking.{Cut, cut_item, behind, piece_size, Taker, TakesIn, TakesAll}
 use Rattle.pair_runs.specs.WrongRuns.{SkipsBreak, ConnectsAgain, SkipsNumber, PushesLess, TakesFree, LoadsWhole}
 use Rattle.pair_runs.proofs.Showing.{last_push}
 use Rattle.pair_runs.proofs.Weights.{written_weighs}

@@ -1,20 +1,15 @@
 -- That both sides of a run agree on the bytes of the line while none of them is replaced, so that
 -- what one peer has received are the first messages of the other; messages are Wayland's, the line
 -- is this project's own.
-use Rattle.std.specs.Prelude.{◌≡◌, ℕ, List, [], ◌∷◌, Option, Some, None}
+use Rattle.std.specs.Prelude.{List, Option, Some, None}
 use Rattle.std.specs.List.{AllByRecursion}
-use Rattle.wp_outside.specs.declared.kinds.Side.TheVariants.{Near, Far}
 use Rattle.script_lang.specs.declared.steps.Step.{Step}
 use Rattle.script_lang.specs.declared.steps.StepKind.{StepKind}
 use Rattle.script_lang.specs.declared.steps.StepKind.TheVariants as line
 use Rattle.pair_model.specs.Lines.{Agrees}
-use Rattle.side_model.specs.declared.fault.ProxyFault.{ProxyFault}
-use Rattle.pair_laws.specs.Pairs.{IsPair}
-use Rattle.pair_laws.specs.Received.{Prefixes}
-use Rattle.pair_runs.specs.Kept.{Kept, one_side}
+use Rattle.pair_runs.specs.Kept.{Kept}
 use Rattle.pair_runs.specs.Moves.{Move, Spoil, Moves}
 use Rattle.pair_runs.specs.Quiet.{Tied, IsDone}
-use Rattle.pair_runs.specs.RunLaws.{fault_by}
 use Rattle.pair_runs.specs.Runs.{Played, End, Drained, Runs}
 use Rattle.pair_runs.specs.Sides.{rows_of}
 use Rattle.pair_runs.specs.States.{State, Fault, first_state}

@@ -1,24 +1,21 @@
 -- What both peers of a run have received, whatever its script says: the first messages that the
 -- other one put, each once. Messages are Wayland's; runs are this project's own.
-use Rattle.std.specs.Prelude.{◌≡◌, ℕ, List, [], ◌∷◌, ◌++◌, Option, Some, None}
+use Rattle.std.specs.Prelude.{◌≡◌, ℕ, List, ◌++◌, Option, Some, None}
 use Rattle.std.specs.List.{AllByRecursion}
 use Rattle.plain_lists.specs.Fronts.{IsFront}
 use Rattle.wp_outside.specs.declared.kinds.Side.{Side}
 use Rattle.wp_outside.specs.declared.kinds.Side.TheVariants.{Near, Far}
 use Rattle.wl_wire.specs.Wire.{cut, joined, IsMessage}
-use Rattle.wl_objects.specs.Registry.{first_state, visible}
 use Rattle.half_model.specs.declared.items.PeerIn.{PeerIn}
 use Rattle.script_lang.specs.Puts.{puts}
 use Rattle.script_lang.specs.declared.steps.Step.{Step}
 use Rattle.side_model.specs.declared.fault.ProxyFault.{ProxyFault}
-use Rattle.pair_laws.specs.Everything.{HasAll}
-use Rattle.pair_laws.specs.Pairs.{IsPair, OneSide}
-use Rattle.pair_laws.specs.Passing.{passing_by}
+use Rattle.pair_laws.specs.Pairs.{IsPair}
 use Rattle.pair_laws.specs.Received.{Prefixes, messages, received_by}
 use Rattle.pair_runs.specs.Agreeing.{SparesAll}
 use Rattle.pair_runs.specs.Kept.{one_side}
 use Rattle.pair_runs.specs.RunLaws.{fault_by}
-use Rattle.pair_runs.specs.Runs.{Played, End, Drained, Runs, bytes_in}
+use Rattle.pair_runs.specs.Runs.{Played, End, Runs, bytes_in}
 use Rattle.pair_runs.specs.Sides.{SideState}
 use Rattle.pair_runs.specs.States.{State, Fault}
 

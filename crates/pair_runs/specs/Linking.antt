@@ -1,6 +1,6 @@
 -- How bytes go from a side onto the line and from the line into a side; this project's own.
-use Rattle.std.specs.Prelude.{◌≡◌, ◌≢◌, ℕ, ◌≤◌, min, true, List, [], ◌∷◌, ◌++◌, take, drop, length}
-use Rattle.std.specs.Prelude.{Some, ◌⊎◌}
+use Rattle.std.specs.Prelude.{◌≡◌, ◌≢◌, ℕ, ◌≤◌, true, List, [], ◌∷◌, ◌++◌, take, length}
+use Rattle.std.specs.Prelude.{◌⊎◌}
 use Rattle.half_model.specs.declared.causes.Limit.TheVariants.{Trail}
 use Rattle.pair_model.specs.Lines.{Line}
 use Rattle.pair_model.specs.Quiet.{NoFront}

@@ -1,10 +1,10 @@
 -- That calls of a proxy one after another are one move of a run, where a proxy begins, and which
 -- calls bring nothing for its peer; this project's own.
-use Rattle.std.specs.Prelude.{◌≡◌, ℕ, List, ◌++◌, Bool, true, Result, Ok}
+use Rattle.std.specs.Prelude.{◌≡◌, ℕ, List, ◌++◌, Bool, true, Ok}
 use Rattle.wp_outside.specs.declared.kinds.Side.{Side}
 use Rattle.half_model.specs.declared.items.PeerIn.{PeerIn}
 use Rattle.half_model.specs.Jobs.{Done}
-use Rattle.side_model.specs.Events.{Event, Fed, Handed, Asks}
+use Rattle.side_model.specs.Events.{Fed, Handed, Asks}
 use Rattle.side_model.specs.Trails.{TrailState, no_records, TrailCalls}
 use Rattle.pair_runs.specs.Linking.{written, read}
 use Rattle.pair_runs.specs.Sides.{SideState, first_side, side_seen}

@@ -2,7 +2,6 @@
 -- left where a round changes nothing; this project's own.
 use Rattle.std.specs.Prelude.{◌≡◌, ℕ, ◌<◌, ◌++◌, List, [], Option, None}
 use Rattle.std.specs.Option.{MatchOption}
-use Rattle.wp_outside.specs.declared.kinds.Side.TheVariants.{Near, Far}
 use Rattle.pair_model.specs.Lines.{Line, Agrees, read_on, written_on}
 use Rattle.pair_laws.specs.Everything.{Drained}
 use Rattle.pair_laws.specs.Pairs.{IsPair}

@@ -3,7 +3,7 @@ use Rattle.std.specs.Prelude.{ℕ, ◌<◌, List, Option, Some, None}
 use Rattle.script_lang.specs.declared.steps.Step.{Step}
 use Rattle.pair_runs.specs.Kept.{Kept}
 use Rattle.pair_runs.specs.Moves.{MovesAll}
-use Rattle.pair_runs.specs.Runs.{Played, Settles, End, Drained, Stopped, Fails, Runs, round, MOST}
+use Rattle.pair_runs.specs.Runs.{Played, Settles, End, Drained, Stopped, Fails, Runs, round}
 use Rattle.pair_runs.specs.States.{State, Fault, first_state}
 
 -- the fault that a run ended with

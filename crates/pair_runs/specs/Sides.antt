@@ -1,7 +1,7 @@
 -- One side of a run as plain data: its records, what waits inside it, and the copies that it waits
 -- for. Messages are Wayland's; proxies, records and copies are this project's own.
-use Rattle.std.specs.Prelude.{◌≡◌, ℕ, ◌-◌, ◌&&◌, not, if◌then◌else◌, Bool, true, false, List, []}
-use Rattle.std.specs.Prelude.{◌∷◌, ◌++◌, drop, length, map, sum, sum_by, Option, Some, None}
+use Rattle.std.specs.Prelude.{ℕ, ◌-◌, ◌&&◌, not, if◌then◌else◌, Bool, true, false, List, []}
+use Rattle.std.specs.Prelude.{◌∷◌, ◌++◌, drop, map, sum, sum_by, Option, Some, None}
 use Rattle.wp_outside.specs.declared.kinds.Side.{Side}
 use Rattle.handle_table.specs.declared.handles.Handle.{Handle}
 use Rattle.shm_pools.specs.declared.notes.Note.{Note}

@@ -1,6 +1,6 @@
 -- The state of a run: both sides, what waits on the wires of their peers, and what waits on the
 -- line between them, if one is up; all of it is this project's own.
-use Rattle.std.specs.Prelude.{ℕ, max, List, [], ◌++◌, Option, None, option_map}
+use Rattle.std.specs.Prelude.{ℕ, max, List, [], Option, None, option_map}
 use Rattle.wp_outside.specs.declared.kinds.Direction.{Direction}
 use Rattle.wp_outside.specs.declared.kinds.Direction.TheVariants.{Up, Down}
 use Rattle.wp_outside.specs.declared.kinds.Side.{Side}

@@ -1,6 +1,6 @@
 -- How a side takes from its peer's wire: item by item while it wants them, where only bytes cost.
 -- The wire carries Wayland's messages; its items and this cost are this project's own.
-use Rattle.std.specs.Prelude.{◌≡◌, ℕ, zero, suc, ◌-◌, ◌<◌, min, Bool, true, false, List, [], ◌∷◌}
+use Rattle.std.specs.Prelude.{◌≡◌, ℕ, zero, suc, ◌-◌, ◌<◌, min, true, false, List, [], ◌∷◌}
 use Rattle.std.specs.Prelude.{take, drop, length, Option, Some, None, ◌⊎◌}
 use Rattle.half_model.specs.declared.items.PeerIn.{PeerIn}
 use Rattle.half_model.specs.declared.items.PeerIn.TheVariants as items

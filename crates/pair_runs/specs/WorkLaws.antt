@@ -1,8 +1,8 @@
 -- What the calls of a proxy with its records are in a run: each good one works as its move says,
 -- and each bad one in part. Messages are Wayland's; proxies, records and runs are this project's
 -- own.
-use Rattle.std.specs.Prelude.{◌≡◌, ℕ, ◌≤◌, List, [], ◌∷◌, take, length, Option, Some, None, Result}
-use Rattle.std.specs.Prelude.{Ok, Err, Bool, true, false, ◌⊎◌}
+use Rattle.std.specs.Prelude.{◌≡◌, ℕ, ◌≤◌, List, [], take, length, Some, None}
+use Rattle.std.specs.Prelude.{Ok, Err, true, false, ◌⊎◌}
 use Rattle.std.specs.List.{AllByRecursion}
 use Rattle.std.specs.Option.{MatchOption}
 use Rattle.half_model.specs.declared.items.PeerIn.{PeerIn}
@@ -10,7 +10,7 @@ use Rattle.half_model.specs.Jobs.{Done, is_out, all_back, handed}
 use Rattle.pair_model.specs.Quiet.{NoFront}
 use Rattle.pair_model.specs.Steps.{Here}
 use Rattle.side_model.specs.declared.fault.ProxyFault.{ProxyFault}
-use Rattle.side_model.specs.Events.{Event, Fed, Handed, Lent, Up, Down, Came, Gave, Asks}
+use Rattle.side_model.specs.Events.{Fed, Handed, Lent, Up, Down, Came, Gave, Asks}
 use Rattle.side_model.specs.Follows.{is_message}
 use Rattle.side_model.specs.Shows.{wants_peer, next_item, front_of}
 use Rattle.side_model.specs.Trails.{TrailState, Keeps, TrailCalls, trail_step, Sends, Lends}

@@ -1,5 +1,5 @@
 -- Moves that no run has, each with what refuses it; this project's own.
-use Rattle.std.specs.Prelude.{◌≡◌, ◌≢◌, ℕ, suc, ◌+◌, ◌<◌, ◌≤◌, true, List, [], ◌∷◌, length, Option}
+use Rattle.std.specs.Prelude.{◌≡◌, ◌≢◌, ℕ, suc, ◌+◌, ◌<◌, ◌≤◌, true, List, [], ◌∷◌, length}
 use Rattle.std.specs.Prelude.{Some, None}
 use Rattle.wp_outside.specs.declared.kinds.Direction.TheVariants.{Up}
 use Rattle.wp_outside.specs.declared.kinds.Side.TheVariants.{Near}
@@ -8,7 +8,7 @@ use Rattle.half_model.specs.declared.items.PeerIn.TheVariants as items
 use Rattle.pair_model.specs.Quiet.{NoFront}
 use Rattle.side_model.specs.Books.{weight}
 use Rattle.side_model.specs.Sound.{MOST_PIECE}
-use Rattle.pair_runs.specs.Moves.{Moves, Take, Load, Connect, Break, Push, Pull}
+use Rattle.pair_runs.specs.Moves.{Moves, Take, Load, Connect, Break, Push}
 use Rattle.pair_runs.specs.Sides.{TOKEN, rows_of, last_number, link_record, wants, words_left}
 use Rattle.pair_runs.specs.States.{State, Lanes, connections}
 
