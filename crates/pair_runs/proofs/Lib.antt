@@ -22,3 +22,4 @@ pub mod Later
 pub mod Passings
 pub mod Ordering
 pub mod Allowing
+pub mod Stopping

@@ -1,5 +1,5 @@
--- In which orders both sides of a run may pass the messages of a script: each keeps the order of each
--- peer's stream of Wayland messages, and a line that moves all that waits parts the messages put
+-- In which orders both sides of a run may pass the messages of a script: each keeps the order of
+-- each peer's stream of Wayland messages, and a line that moves all that waits parts the messages put
 -- before it from those behind it.
 use Rattle.std.specs.Prelude.{◌≡◌, ℕ, true, List, ◌∷◌, ◌++◌, length, take}
 use Rattle.plain_lists.specs.Fronts.{IsFront}
@@ -25,7 +25,8 @@ pub record Parts (requests events : ℕ) (order : List (Way × List ℕ)) : Type
   pub requests_are : of_way Request front ≡ take requests (of_way Request order)
   pub events_are : of_way Event front ≡ take events (of_way Event order)
 
--- Of both sides' orders: the near side has as many events as are shown of the far side's first ones.
+-- Of both sides' orders: the near side has as many events as are shown of the far side's first
+-- ones.
 pub record BothPart (requests events : ℕ) (near far : List (Way × List ℕ)) : Type 0 where
   pub far_parts : Parts requests events far
   pub near_parts : Parts requests (length (visible first_state far_parts.front)) near

@@ -1,5 +1,6 @@
 -- What holds of each run, whatever its script says; the script language is this project's own.
-use Rattle.std.specs.Prelude.{ℕ, ◌<◌, List, Option, Some, None}
+use Rattle.std.specs.Prelude.{◌≡◌, ◌≢◌, ℕ, ◌<◌, List, [], Option, Some, None}
+use Rattle.script_lang.specs.Puts.{before_stop}
 use Rattle.script_lang.specs.declared.steps.Step.{Step}
 use Rattle.pair_runs.specs.Kept.{Kept}
 use Rattle.pair_runs.specs.Moves.{MovesAll}
@@ -29,3 +30,16 @@ abbrev pub DrainsQuietly : Type 0
 DrainsQuietly = (steps : List Step) (played : List Played) (last : State)
     → Runs steps played last Drained
     → (most : ℕ) × (0 < most) × MovesAll (round most) last last None
+
+-- A run drains only where its script has no `stop`, and is stopped only where it has one.
+abbrev pub DrainsWithoutStop : Type 0
+DrainsWithoutStop = (steps : List Step) (played : List Played) (last : State)
+    → Runs steps played last Drained → before_stop steps ≡ steps
+
+abbrev pub StopsAtStop : Type 0
+StopsAtStop = (steps : List Step) (played : List Played) (last : State)
+    → Runs steps played last Stopped → before_stop steps ≢ steps
+
+-- The empty script has a run, in which nothing moves.
+abbrev pub EmptyDrains : Type 0
+EmptyDrains = Runs [] [] first_state Drained

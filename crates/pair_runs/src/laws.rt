@@ -7,7 +7,8 @@ ghost use Rattle.pair_runs.specs.MoreLaws.{WorksMore, ReadsMore, WritesMore, Beg
 ghost use Rattle.pair_runs.specs.MoreLaws.{GivesNoMore};
 ghost use Rattle.pair_runs.specs.Orders.{RunsAreAllowed};
 ghost use Rattle.pair_runs.specs.Quiet.{QuietIsDone};
-ghost use Rattle.pair_runs.specs.RunLaws.{RunsKeep, SettlesQuietly, DrainsQuietly};
+ghost use Rattle.pair_runs.specs.RunLaws.{RunsKeep, SettlesQuietly, DrainsQuietly, EmptyDrains};
+ghost use Rattle.pair_runs.specs.RunLaws.{DrainsWithoutStop, StopsAtStop};
 ghost use Rattle.pair_runs.specs.WorkLaws.{FedWorks, CameWorks, AsksWorks, UpIs, DownIs};
 ghost use Rattle.pair_runs.specs.WorkLaws.{LendsIs, SendsIs, WantsIs, NothingLent, KeptByCalls};
 ghost use Rattle.pair_runs.specs.WorkLaws.{FedFails, CameFails, AsksFails};
@@ -46,9 +47,9 @@ pub fn calls_fail()
     ensures kept { KeptByFault }
 {}
 
-/// Calls one after another are one move, also where bytes are read or written in pieces. A proxy with
-/// empty records is a side at first, and where no frame can be heard a call brings nothing for its
-/// peer but receipts.
+/// Calls one after another are one move, also where bytes are read or written in pieces. A proxy
+/// with empty records is a side at first, and where no frame can be heard a call brings nothing for
+/// its peer but receipts.
 pub fn calls_compose()
     ensures works { WorksMore }
     ensures reads { ReadsMore }
@@ -73,11 +74,15 @@ pub fn rounds_end()
 {}
 
 /// In each run the records of both sides are kept, and one that ends where nothing moved any more
-/// ends with a round that changes nothing.
+/// ends with a round that changes nothing; a run ends so only without a line `stop`. There are runs:
+/// the empty script has one.
 pub fn runs_keep()
     ensures keep { RunsKeep }
     ensures settles { SettlesQuietly }
     ensures drains { DrainsQuietly }
+    ensures without_stop { DrainsWithoutStop }
+    ensures at_stop { StopsAtStop }
+    ensures empty { EmptyDrains }
 {}
 
 /// While no byte of the line is replaced both sides agree, and a run that ends where nothing moved
