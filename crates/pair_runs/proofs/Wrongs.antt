@@ -5,6 +5,7 @@ use Rattle.wp_outside.specs.declared.kinds.Direction.TheVariants.{Up}
 use Rattle.wp_outside.specs.declared.kinds.Side.TheVariants.{Near}
 use Rattle.half_model.specs.declared.items.PeerIn.{PeerIn}
 use Rattle.half_model.specs.declared.items.PeerIn.TheVariants as items
+use Rattle.half_model.specs.Group.{Owed}
 use Rattle.pair_model.specs.Quiet.{NoFront}
 use Rattle.side_model.specs.declared.fault.ProxyFault.{ProxyFault}
 use Rattle.side_model.specs.Books.{weight}
@@ -14,7 +15,7 @@ use Rattle.pair_runs.specs.Moves.{at_side, Taken, Loaded, LoadedThen, ConnectedB
 use Rattle.pair_runs.specs.Sides.{SideState, TOKEN, rows_of, last_number, link_record, wants, words_left}
 use Rattle.pair_runs.specs.States.{State, Lanes, connections}
 use Rattle.pair_runs.specs.Taking.{Cut, cut_item, behind, piece_size, Taker, TakesIn, TakesAll}
-use Rattle.pair_runs.specs.WrongRuns.{SkipsBreak, ConnectsAgain, SkipsNumber, PushesLess, TakesFree, LoadsWhole}
+use Rattle.pair_runs.specs.WrongRuns.{SkipsBreak, ConnectsAgain, SkipsNumber, PushesLess, TakesFree, LoadsWhole, LeavesWaiting, HoldsOutput, OwesLoaded}
 use Rattle.pair_runs.proofs.Showing.{last_push}
 use Rattle.pair_runs.proofs.Weights.{written_weighs}
 
@@ -112,3 +113,12 @@ loads_whole words s t l some m other = go m.changes
 
     go : Loaded words s t None → ⊥
     go (near, (over, (fault, loads, others))) = then_far near over fault loads others
+
+pub leaves_waiting : LeavesWaiting
+leaves_waiting move s t m w free = let never : true ≡ false = sym free ∙ m.kept.0.treated w in cc
+
+pub holds_output : HoldsOutput
+holds_output move s t m l = omega (arith, m.kept.0.gave, l)
+
+pub owes_loaded : OwesLoaded
+owes_loaded move s t m owed copies owes = let never : None ≡ Some owed = sym (m.kept.0.owes copies) ∙ owes in cc

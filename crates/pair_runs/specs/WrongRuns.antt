@@ -5,11 +5,16 @@ use Rattle.wp_outside.specs.declared.kinds.Direction.TheVariants.{Up}
 use Rattle.wp_outside.specs.declared.kinds.Side.TheVariants.{Near}
 use Rattle.half_model.specs.declared.items.PeerIn.{PeerIn}
 use Rattle.half_model.specs.declared.items.PeerIn.TheVariants as items
+use Rattle.half_model.specs.Group.{Owed}
+use Rattle.half_model.specs.Story.{accepted_in, messages_in}
+use Rattle.half_model.specs.StoryLaws.{now}
 use Rattle.pair_model.specs.Quiet.{NoFront}
 use Rattle.side_model.specs.Books.{weight}
 use Rattle.side_model.specs.Sound.{MOST_PIECE}
-use Rattle.pair_runs.specs.Moves.{Moves, Take, Load, Connect, Break, Push}
-use Rattle.pair_runs.specs.Sides.{TOKEN, rows_of, last_number, link_record, wants, words_left}
+use Rattle.pair_runs.specs.Kept.{waits}
+use Rattle.pair_runs.specs.Moves.{Move, Moves, Take, Load, Connect, Break, Push}
+use Rattle.pair_runs.specs.Sides.{TOKEN, rows_of, last_number, link_record, is_free, wants}
+use Rattle.pair_runs.specs.Sides.{words_left}
 use Rattle.pair_runs.specs.States.{State, Lanes, connections}
 
 -- the connection was up behind a break
@@ -45,3 +50,18 @@ abbrev pub LoadsWhole : Type 0
 LoadsWhole = (words : ℕ) (s t : State) → words < words_left s.near
     → s.near.copies ≢ [] → Moves (Load words) s t None
     → t.near.loaded ≢ s.near.loaded + words → ⊥
+
+-- a whole message was left inside though the side might have taken it
+abbrev pub LeavesWaiting : Type 0
+LeavesWaiting = (move : Move) (s t : State) → Moves move s t None
+    → waits t.near ≡ true → is_free t.near ≡ true → ⊥
+
+-- a message that was accepted was kept from the peer
+abbrev pub HoldsOutput : Type 0
+HoldsOutput = (move : Move) (s t : State) (moves : Moves move s t None)
+    → t.near.book.trail.given < length (messages_in (accepted_in moves.kept.0.law.story)) → ⊥
+
+-- all copies were loaded and the frames of their message were not made
+abbrev pub OwesLoaded : Type 0
+OwesLoaded = (move : Move) (s t : State) (moves : Moves move s t None) (owed : Owed)
+    → t.near.copies ≡ [] → (now Near moves.kept.0.law.story).owes ≡ Some owed → ⊥

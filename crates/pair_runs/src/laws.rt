@@ -15,7 +15,8 @@ ghost use Rattle.pair_runs.specs.WorkLaws.{FedFails, CameFails, AsksFails};
 ghost use Rattle.pair_runs.specs.WorkLaws.{HandedFails, UpFails, LendsFails, KeptByFault};
 ghost use Rattle.pair_runs.specs.WorkLaws.{GaveWorks, LentIs, HandedIs, HandedWorks, NoneOut};
 ghost use Rattle.pair_runs.specs.WrongRuns.{SkipsBreak, ConnectsAgain, SkipsNumber, PushesLess};
-ghost use Rattle.pair_runs.specs.WrongRuns.{TakesFree, LoadsWhole};
+ghost use Rattle.pair_runs.specs.WrongRuns.{TakesFree, LoadsWhole, LeavesWaiting, HoldsOutput};
+ghost use Rattle.pair_runs.specs.WrongRuns.{OwesLoaded};
 
 /// Each good call of a proxy with its records is what its move says: it takes an item of its peer,
 /// hears what comes on the connection, is asked to close, has a connection that comes up or goes
@@ -108,7 +109,9 @@ pub fn orders_are_allowed()
 
 /// No run skips a break or the number of a connection, makes a connection while one is up, writes
 /// less than it is asked to while there is something to be sent, takes an item for nothing once all
-/// bytes asked for are taken, or loads more words than it is asked to.
+/// bytes asked for are taken, loads more words than it is asked to, leaves a whole message inside
+/// that might be taken, keeps a message from a peer, or owes a message's frames once its copies are
+/// loaded.
 pub fn wrong_runs()
     ensures skips_break { SkipsBreak }
     ensures connects_again { ConnectsAgain }
@@ -116,4 +119,7 @@ pub fn wrong_runs()
     ensures pushes_less { PushesLess }
     ensures takes_free { TakesFree }
     ensures loads_whole { LoadsWhole }
+    ensures leaves_waiting { LeavesWaiting }
+    ensures holds_output { HoldsOutput }
+    ensures owes_loaded { OwesLoaded }
 {}

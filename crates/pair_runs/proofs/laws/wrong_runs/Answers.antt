@@ -1,4 +1,4 @@
-use Rattle.pair_runs.proofs.Wrongs.{skips_break, connects_again, skips_number, pushes_less, takes_free, loads_whole}
+use Rattle.pair_runs.proofs.Wrongs.{skips_break, connects_again, skips_number, pushes_less, takes_free, loads_whole, leaves_waiting, holds_output, owes_loaded}
 use Rattle.pair_runs.proofs.laws.wrong_runs.Goals as goal
 
 pub returns-clause-skips_break : goal.returns-clause-skips_break
@@ -18,3 +18,12 @@ returns-clause-takes_free c = takes_free
 
 pub returns-clause-loads_whole : goal.returns-clause-loads_whole
 returns-clause-loads_whole c = loads_whole
+
+pub returns-clause-leaves_waiting : goal.returns-clause-leaves_waiting
+returns-clause-leaves_waiting c = leaves_waiting
+
+pub returns-clause-holds_output : goal.returns-clause-holds_output
+returns-clause-holds_output c = holds_output
+
+pub returns-clause-owes_loaded : goal.returns-clause-owes_loaded
+returns-clause-owes_loaded c = owes_loaded
