@@ -19,7 +19,7 @@ use Rattle.side_model.proofs.TrailParts.{ran, same_weight}
 use Rattle.pair_runs.specs.Linking.{RefusesPiece}
 use Rattle.pair_runs.specs.Moves.{LineInPart}
 use Rattle.pair_runs.specs.Sides.{SideState, fed, asked, seen, side_seen}
-use Rattle.pair_runs.specs.WorkLaws.{RunsOn, FedFails, CameFails, AsksFails, HandedFails, UpFails, LendsFails, KeptByFault}
+use Rattle.pair_runs.specs.WorkLaws.{RunsOn, FailsInPart, FedFails, CameFails, AsksFails, HandedFails, UpFails, LendsFails, KeptByFault}
 use Rattle.pair_runs.specs.Working.{Works, WorksInPart}
 use Rattle.pair_runs.proofs.Calling.{fed_base, came_base, asks_base}
 use Rattle.pair_runs.proofs.Composing.{all_then, joined_then, grows_same, grows_then, may_hear}
@@ -56,12 +56,17 @@ Recorded half event old new =
     ((side_seen half new).book ≡ (side_seen half old).book)
     ⊎ WorksInPart (seen half (step event old.now) (grown event old.now (closed old.book))) (side_seen half new)
 
-some_recorded : (half : ℕ) (event : Event) (old new : TrailState) (t : Now) (events : List Event) → Part (step event old.now) events t → new.book ≡ grow_all (event ∷ events) old.now (closed old.book) → Recorded half event old new
-some_recorded half event old new t events part e =
+-- what the call was made for is recorded, and some of the events that are due
+some_part : (half : ℕ) (event : Event) (old new : TrailState) (t : Now) (events : List Event) → Part (step event old.now) events t → new.book ≡ grow_all (event ∷ events) old.now (closed old.book)
+    → WorksInPart (seen half (step event old.now) (grown event old.now (closed old.book))) (side_seen half new)
+some_part half event old new t events part e =
     let begun : Book = grown event old.now (closed old.book) in
     let a : SideState = seen half (step event old.now) begun in
     let b : SideState = seen half t (grow_all events (step event old.now) begun) in
-    inr (same_part a b (side_seen half new) (works_part a b (row_works half (step event old.now) t begun events part)) (ap closed e))
+    same_part a b (side_seen half new) (works_part a b (row_works half (step event old.now) t begun events part)) (ap closed e)
+
+some_recorded : (half : ℕ) (event : Event) (old new : TrailState) (t : Now) (events : List Event) → Part (step event old.now) events t → new.book ≡ grow_all (event ∷ events) old.now (closed old.book) → Recorded half event old new
+some_recorded half event old new t events part e = inr (some_part half event old new t events part e)
 
 -- what is recorded is a front of the row
 heavy_recorded : (half : ℕ) (event : Event) (old new : TrailState) (events recorded : List Event) (heavy : Event) (more : List Event) (t : Now) → Part (step event old.now) events t
@@ -106,7 +111,7 @@ recorded half event fault old new r calls =
 -- ---- the calls
 
 -- behind what the call was made for
-then_part : (a b c : SideState) → Works true a b → WorksInPart b c → WorksInPart a c
+pub then_part : (a b c : SideState) → Works true a b → WorksInPart b c → WorksInPart a c
 then_part a b c w p = record {
   took = w.took ++ p.took;
   messages = all_then IsMessage w.took p.took w.inside.messages p.messages;
@@ -128,11 +133,28 @@ fed_fails half item fault old new r calls = elim (recorded half (Fed item) fault
   | inr some ↦ then_part (fed item (side_seen half old)) (seen half (step (Fed item) old.now) (grown (Fed item) old.now (closed old.book))) (side_seen half new) (may_hear _ _ (fed_base half item old.now old.book)) some
 ]
 
-pub came_fails : CameFails
-came_fails half piece here fault old new r up calls = elim (recorded half (Came piece) fault old new r calls) [
-  | inl none ↦ inl (nothing_part (side_seen half old) (side_seen half new) none)
-  | inr some ↦ inr (subst (λ (a : SideState). WorksInPart a (side_seen half new)) (came_base half piece here old.now old.book old.now.live.here refl up) some)
+-- a piece that is not read is refused
+came_so : (half : ℕ) (piece : List ℕ) (fault : ProxyFault) (old new : TrailState) → RunsOn old → FailsSo (Came piece) fault old new
+    → FailsInPart fault (side_seen half old) (seen half (step (Came piece) old.now) (grown (Came piece) old.now (closed old.book))) (side_seen half new)
+came_so half piece fault old new r (HeavyAtOnce e d) = inl (inl e, nothing_part (side_seen half old) (side_seen half new) (ap closed d.book))
+came_so half piece fault old new r (HeavyThen e d) = elim (stops_recorded half (Came piece) old new r d) [
+  | inl none ↦ inl (inl e, nothing_part (side_seen half old) (side_seen half new) none)
+  | inr some ↦ inr some
 ]
+came_so half piece fault old new r (Failed d) = inr (some_part half (Came piece) old new d.stops.last d.events d.stops.part d.whole.book)
+came_so half piece fault old new r (FailedAtOnce d) = elim d.because [
+  | inl bar ↦ absurd cc
+  | inr memory ↦ inl (inr memory, nothing_part (side_seen half old) (side_seen half new) (ap closed d.book))
+]
+came_so half piece fault old new r (NoMemory d) = elim d.first [
+  | inl none ↦ inl (inr d.memory, nothing_part (side_seen half old) (side_seen half new) (ap closed (d.book ∙ ap (λ (es : List Event). grow_all es old.now (closed old.book)) none)))
+  | inr one ↦ inr (some_part half (Came piece) old new (step (Came piece) old.now) [] refl (d.book ∙ ap (λ (es : List Event). grow_all es old.now (closed old.book)) one.0))
+]
+
+pub came_fails : CameFails
+came_fails half piece here fault old new r up calls =
+    let d : FailsNow (Came piece) fault old new = subst (λ (it : Option ProxyFault). TrailAfter it (Came piece) (Err fault) old new) r.goes_on calls in
+    subst (λ (a : SideState). FailsInPart fault (side_seen half old) a (side_seen half new)) (came_base half piece here old.now old.book old.now.live.here refl up) (came_so half piece fault old new r d.so)
 
 pub asks_fails : AsksFails
 asks_fails half reason fault old new r calls = elim (recorded half (Asks reason) fault old new r calls) [

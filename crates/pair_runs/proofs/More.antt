@@ -17,12 +17,13 @@ use Rattle.side_model.specs.Steps.{step, fed_pipe, took, grouped, ended}
 use Rattle.side_model.specs.Trails.{TrailState, TrailCalls}
 use Rattle.side_model.proofs.Dues.{DueIn, InHear, InGroup, InTreat, InEnd, InChoose, due_in, group_is_due, turn_due, end_is_due, choice_due}
 use Rattle.pair_runs.specs.Linking.{read}
-use Rattle.pair_runs.specs.MoreLaws.{WorksMore, ReadsMore, WritesMore, BeginsFirst, GivesNoMore}
+use Rattle.pair_runs.specs.MoreLaws.{WorksMore, ReadsMore, WritesMore, BeginsFirst, GivesNoMore, PartMore}
 use Rattle.pair_runs.specs.Sides.{SideState, on_rows}
 use Rattle.pair_runs.specs.WorkLaws.{RunsOn}
 use Rattle.pair_runs.specs.Working.{Works}
 use Rattle.pair_runs.proofs.Calling.{Ran, ran_by, quiet_still, fed_here}
 use Rattle.pair_runs.proofs.Composing.{works_then}
+use Rattle.pair_runs.proofs.Failing.{then_part}
 use Rattle.pair_runs.proofs.Rowing.{stays_quiet}
 
 pub works_more : WorksMore
@@ -70,6 +71,14 @@ pub reads_more : ReadsMore
 reads_more one other a b c h k =
     works_then true (read (one ++ other) a) (read other b) c
     (subst (λ (x : SideState). Works true x (read other b)) (read_twice one other a) (on_same (on_last (with_read other)) true (read one a) b h)) k
+
+pub part_more : PartMore
+part_more = record {
+  works = then_part;
+  reads = λ one other a b c h p.
+      then_part (read (one ++ other) a) (read other b) c
+      (subst (λ (x : SideState). Works true x (read other b)) (read_twice one other a) (on_same (on_last (with_read other)) true (read one a) b h)) p;
+}
 
 -- ---- at first
 

@@ -9,7 +9,7 @@ use Rattle.side_model.specs.Trails.{TrailState, no_records, TrailCalls}
 use Rattle.pair_runs.specs.Linking.{written, read}
 use Rattle.pair_runs.specs.Sides.{SideState, first_side, side_seen}
 use Rattle.pair_runs.specs.WorkLaws.{RunsOn}
-use Rattle.pair_runs.specs.Working.{Works}
+use Rattle.pair_runs.specs.Working.{Works, WorksInPart}
 
 -- calls behind calls
 abbrev pub WorksMore : Type 0
@@ -21,6 +21,12 @@ abbrev pub ReadsMore : Type 0
 ReadsMore = (one other : List ℕ) (a b c : SideState) → Works true (read one a) b
     → Works true (read other b) c
     → Works true (read (one ++ other) a) c
+
+-- and where the last call meets a fault
+pub record PartMore : Type 0 where
+  pub works : (a b c : SideState) → Works true a b → WorksInPart b c → WorksInPart a c
+  pub reads : (one other : List ℕ) (a b c : SideState) → Works true (read one a) b
+      → WorksInPart (read other b) c → WorksInPart (read (one ++ other) a) c
 
 -- and so are those that are written
 abbrev pub WritesMore : Type 0

@@ -1,6 +1,6 @@
 -- In which orders both sides of a run may pass the messages of a script: each keeps the order of
--- each peer's stream of Wayland messages, and a line that moves all that waits parts the messages put
--- before it from those behind it.
+-- each peer's stream of Wayland messages, and a line that moves all that waits parts the messages
+-- put before it from those behind it.
 use Rattle.std.specs.Prelude.{◌≡◌, ℕ, true, List, ◌∷◌, ◌++◌, length, take}
 use Rattle.plain_lists.specs.Fronts.{IsFront}
 use Rattle.wl_tables.specs.declared.way.Way.{Way}

@@ -104,9 +104,9 @@ NoneOut = (half other : ℕ) (t : TrailState)
 
 -- ---- calls that meet a fault
 
--- what a call was made for is done, or not
-abbrev pub FailsInPart : SideState → SideState → SideState → Type 0
-FailsInPart old done new = WorksInPart old new ⊎ WorksInPart done new
+-- a piece is read, or it is not, for one of two faults
+abbrev pub FailsInPart : ProxyFault → SideState → SideState → SideState → Type 0
+FailsInPart fault old done new = (RefusesPiece fault × WorksInPart old new) ⊎ WorksInPart done new
 
 abbrev pub FedFails : Type 0
 FedFails = (half : ℕ) (item : PeerIn) (fault : ProxyFault) (old new : TrailState) → RunsOn old
@@ -117,7 +117,7 @@ abbrev pub CameFails : Type 0
 CameFails = (half : ℕ) (piece : List ℕ) (here : Here) (fault : ProxyFault) (old new : TrailState)
     → RunsOn old → old.now.live.here ≡ Some here
     → TrailCalls (Came piece) (Err fault) old new
-    → FailsInPart (side_seen half old) (read piece (side_seen half old)) (side_seen half new)
+    → FailsInPart fault (side_seen half old) (read piece (side_seen half old)) (side_seen half new)
 
 abbrev pub AsksFails : Type 0
 AsksFails = (half reason : ℕ) (fault : ProxyFault) (old new : TrailState) → RunsOn old

@@ -4,7 +4,7 @@ ghost use Rattle.pair_runs.specs.Agreeing.{MovesTie, RunsAgree};
 ghost use Rattle.pair_runs.specs.Headline.{RunsTakeFirst, RunsReceive};
 ghost use Rattle.pair_runs.specs.Measure.{RoundFalls};
 ghost use Rattle.pair_runs.specs.MoreLaws.{WorksMore, ReadsMore, WritesMore, BeginsFirst};
-ghost use Rattle.pair_runs.specs.MoreLaws.{GivesNoMore};
+ghost use Rattle.pair_runs.specs.MoreLaws.{GivesNoMore, PartMore};
 ghost use Rattle.pair_runs.specs.Orders.{RunsAreAllowed};
 ghost use Rattle.pair_runs.specs.Quiet.{QuietIsDone};
 ghost use Rattle.pair_runs.specs.RunLaws.{RunsKeep, SettlesQuietly, DrainsQuietly, EmptyDrains};
@@ -54,6 +54,7 @@ pub fn calls_fail()
 pub fn calls_compose()
     ensures works { WorksMore }
     ensures reads { ReadsMore }
+    ensures part { PartMore }
     ensures writes { WritesMore }
     ensures first { BeginsFirst }
     ensures gives { GivesNoMore }
@@ -75,8 +76,8 @@ pub fn rounds_end()
 {}
 
 /// In each run the records of both sides are kept, and one that ends where nothing moved any more
-/// ends with a round that changes nothing; a run ends so only without a line `stop`. There are runs:
-/// the empty script has one.
+/// ends with a round that changes nothing; a run ends so only without a line `stop`. There are
+/// runs: the empty script has one.
 pub fn runs_keep()
     ensures keep { RunsKeep }
     ensures settles { SettlesQuietly }

@@ -1,4 +1,4 @@
-use Rattle.pair_runs.proofs.More.{works_more, reads_more, writes_more, begins_first, gives_no_more}
+use Rattle.pair_runs.proofs.More.{works_more, reads_more, part_more, writes_more, begins_first, gives_no_more}
 use Rattle.pair_runs.proofs.laws.calls_compose.Goals as goal
 
 pub returns-clause-works : goal.returns-clause-works
@@ -15,3 +15,6 @@ returns-clause-first c = begins_first
 
 pub returns-clause-gives : goal.returns-clause-gives
 returns-clause-gives c = gives_no_more
+
+pub returns-clause-part : goal.returns-clause-part
+returns-clause-part c = part_more
