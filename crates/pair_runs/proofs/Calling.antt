@@ -36,7 +36,7 @@ use Rattle.pair_runs.proofs.Rowing.{row_works, quiet_row, marked_book}
 
 -- ---- a call that rests again
 
-ok_done : (event : Event) (old new : TrailState) → old.fault ≡ None → TrailCalls event (Ok tt) old new → Done event old new
+pub ok_done : (event : Event) (old new : TrailState) → old.fault ≡ None → TrailCalls event (Ok tt) old new → Done event old new
 ok_done event old new none calls = subst (λ (fault : Option ProxyFault). TrailAfter fault event (Ok tt) old new) none calls
 
 ok_row : (event : Event) (events : List Event) (old last : Now) → old.fault ≡ None → Calls event (Ok tt) events old last → Row (step event old) events last Rest

@@ -1,17 +1,20 @@
 -- What each call of a proxy with its records leaves in a run that meets a fault.
-use Rattle.std.proofs.Common.{◌≡◌, ℕ, List, [], ◌∷◌, ◌++◌, true, Option, Some, None, Err, refl, sym, ap, subst, ◌∙◌, append_assoc, arith, inl, inr, ◌⊎◌}
+use Rattle.std.proofs.Common.{◌≡◌, ℕ, ◌<◌, ◌≤◌, nat_lt, List, [], ◌∷◌, ◌++◌, Bool, true, false, if◌then◌else◌, Option, Some, None, Result, Ok, Err, refl, sym, ap, subst, ◌∙◌, append_assoc, arith, inl, inr, ◌⊎◌}
+use Rattle.std.proofs.lemmas.Bool.{ltb-true, ltb-false}
 use Rattle.wl_wire.specs.Wire.{joined, IsMessage}
 use Rattle.wp_outside.specs.declared.kinds.Side.{Side}
 use Rattle.side_model.specs.declared.fault.ProxyFault.{ProxyFault}
 use Rattle.side_model.specs.Books.{Book, grown, grow_all, closed}
-use Rattle.side_model.specs.Calls.{Part}
+use Rattle.half_model.specs.declared.causes.Limit.TheVariants.{Connections, Trail}
+use Rattle.side_model.specs.Calls.{Part, CallsBarred, CallsAfter, MOST_CONNECTIONS}
+use Rattle.side_model.specs.Due.{next}
 use Rattle.side_model.specs.declared.fault.ProxyFault.TheVariants as faults
 use Rattle.side_model.specs.declared.fault.ProxyFault.TheVariants.{Memory}
-use Rattle.side_model.specs.Events.{Event, Fed, Handed, Up, Came, Asks}
+use Rattle.side_model.specs.Events.{Halt, Rest, Event, Fed, Handed, Up, Came, Asks}
 use Rattle.side_model.specs.Records.{Law, IndexIs}
 use Rattle.side_model.specs.State.{Now}
 use Rattle.side_model.specs.Steps.{step}
-use Rattle.side_model.specs.Trails.{TrailState, step_all, FailsNow, FailsSo, HeavyAtOnce, HeavyThen, Failed, FailedAtOnce, NoMemory, StopsRecording, LacksMemory, TrailAfter, TrailCalls, NotLent, TooHeavyFront, LendsAfter}
+use Rattle.side_model.specs.Trails.{Done, TrailState, step_all, FailsNow, FailsSo, HeavyAtOnce, HeavyThen, Failed, FailedAtOnce, NoMemory, StopsRecording, LacksMemory, TrailAfter, TrailCalls, NotLent, TooHeavyFront, LendsAfter}
 use Rattle.side_model.proofs.Parts.{part_at}
 use Rattle.side_model.proofs.Calms.{up_rests}
 use Rattle.side_model.proofs.RowProofs.{none_after}
@@ -19,9 +22,9 @@ use Rattle.side_model.proofs.TrailParts.{ran, same_weight}
 use Rattle.pair_runs.specs.Linking.{RefusesPiece}
 use Rattle.pair_runs.specs.Moves.{LineInPart}
 use Rattle.pair_runs.specs.Sides.{SideState, fed, asked, seen, side_seen}
-use Rattle.pair_runs.specs.WorkLaws.{RunsOn, FailsInPart, FedFails, CameFails, AsksFails, HandedFails, UpFails, LendsFails, KeptByFault}
+use Rattle.pair_runs.specs.WorkLaws.{RunsOn, FailsInPart, FedFails, CameFails, AsksFails, HandedFails, UpFails, UpLimits, LendsFails, KeptByFault}
 use Rattle.pair_runs.specs.Working.{Works, WorksInPart}
-use Rattle.pair_runs.proofs.Calling.{fed_base, came_base, asks_base}
+use Rattle.pair_runs.proofs.Calling.{ok_done, fed_base, came_base, asks_base}
 use Rattle.pair_runs.proofs.Composing.{all_then, joined_then, grows_same, grows_then, may_hear}
 use Rattle.pair_runs.proofs.Ends.{front_same, front_then}
 use Rattle.pair_runs.proofs.Rowing.{row_works}
@@ -240,3 +243,44 @@ pub kept_by_fault : KeptByFault
 kept_by_fault half fault t k e token =
     subst (λ (it : List ℕ). Law t.now.side it (closed t.book) (Some fault)) token
     (subst (λ (it : Option ProxyFault). Law t.now.side t.now.token (closed t.book) it) e (law_closed t.now.side t.now.token t.book t.fault k.law))
+
+-- ---- the greatest connection
+
+few_by : (b : Bool) (connection : ℕ) (result : Result Unit ProxyFault) (events : List Event) (old last : Now) → nat_lt MOST_CONNECTIONS connection ≡ b → result ≡ Ok tt
+    → CallsBarred (if b then Some (faults.Limit Connections) else None) (Up connection) result events old last → connection ≤ MOST_CONNECTIONS
+few_by true connection result events old last e good calls = absurd (let never : Ok tt ≡ Err (faults.Limit Connections) = sym good ∙ calls.answers in cc)
+few_by false connection result events old last e good calls = omega (arith, ltb-false MOST_CONNECTIONS connection e)
+
+up_few : (connection : ℕ) (old new : TrailState) → RunsOn old → TrailCalls (Up connection) (Ok tt) old new → connection ≤ MOST_CONNECTIONS
+up_few connection old new r calls =
+    let d : Done (Up connection) old new = ok_done (Up connection) old new r.goes_on calls in
+    few_by (nat_lt MOST_CONNECTIONS connection) connection (Ok tt) d.events old.now d.last refl refl
+    (subst (λ (it : Option ProxyFault). CallsAfter it (Up connection) (Ok tt) d.events old.now d.last) (r.keeps.runs r.goes_on).fault d.calls)
+
+many_by : (b : Bool) (connection : ℕ) → nat_lt MOST_CONNECTIONS connection ≡ b → (if b then Some (faults.Limit Connections) else None) ≡ Some (faults.Limit Connections) → MOST_CONNECTIONS < connection
+many_by true connection e d = ltb-true MOST_CONNECTIONS connection e
+many_by false connection e d = absurd cc
+
+up_many : (connection : ℕ) (fault : ProxyFault) (old new : TrailState) → RunsOn old → old.now.live.here ≡ None → fault ≡ faults.Limit Connections → FailsSo (Up connection) fault old new → MOST_CONNECTIONS < connection
+up_many connection fault old new r up is (HeavyAtOnce e d) = absurd (let never : faults.Limit Connections ≡ faults.Limit Trail = sym is ∙ e in cc)
+up_many connection fault old new r up is (HeavyThen e d) = absurd (let never : faults.Limit Connections ≡ faults.Limit Trail = sym is ∙ e in cc)
+up_many connection fault old new r up is (Failed d) = elim d.stops.due [
+  | inl halt ↦
+      let none : d.events ≡ [] = up_alone connection old d.stops.last d.events r up d.stops.part in
+      let same : d.stops.last ≡ step (Up connection) old.now = subst (λ (es : List Event). Part (step (Up connection) old.now) es d.stops.last) none d.stops.part in
+      absurd (let never : Halt fault ≡ Rest = sym halt ∙ ap next same ∙ up_rests old.now connection up (r.keeps.runs r.goes_on).rests in cc)
+  | inr memory ↦ absurd (let never : faults.Limit Connections ≡ Memory = sym is ∙ memory in cc)
+]
+up_many connection fault old new r up is (FailedAtOnce d) = elim d.because [
+  | inl bar ↦ many_by (nat_lt MOST_CONNECTIONS connection) connection refl (bar ∙ ap (λ (it : ProxyFault). Some it) is)
+  | inr memory ↦ absurd (let never : faults.Limit Connections ≡ Memory = sym is ∙ memory in cc)
+]
+up_many connection fault old new r up is (NoMemory d) = absurd (let never : faults.Limit Connections ≡ Memory = sym is ∙ d.memory in cc)
+
+pub up_limits : UpLimits
+up_limits = record {
+  good = up_few;
+  bad = λ connection old new r up calls.
+      let d : FailsNow (Up connection) (faults.Limit Connections) old new = subst (λ (it : Option ProxyFault). TrailAfter it (Up connection) (Err (faults.Limit Connections)) old new) r.goes_on calls in
+      up_many connection (faults.Limit Connections) old new r up refl d.so;
+}

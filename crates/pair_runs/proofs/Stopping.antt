@@ -1,13 +1,13 @@
 -- Where a run ends, by the lines of its script; and that there are runs.
-use Rattle.std.proofs.Common.{◌≡◌, ◌≢◌, ℕ, suc, ◌<◌, List, [], ◌∷◌, length, Bool, true, false, Option, Some, None, refl, sym, ap, ◌∙◌, arith, inl, inr, ◌⊎◌, if◌then◌else◌}
+use Rattle.std.proofs.Common.{◌≡◌, ℕ, ◌<◌, List, [], ◌∷◌, length, Bool, true, false, Option, Some, None, refl, sym, ap, ◌∙◌, arith, inl, inr, if◌then◌else◌}
 use Rattle.wp_outside.specs.declared.kinds.Direction.TheVariants.{Up, Down}
 use Rattle.wp_outside.specs.declared.kinds.Side.{Side}
 use Rattle.wp_outside.specs.declared.kinds.Side.TheVariants.{Near, Far}
 use Rattle.script_lang.specs.Puts.{is_stop, before_stop}
 use Rattle.script_lang.specs.declared.steps.Step.{Step}
-use Rattle.pair_runs.specs.Moves.{Move, Take, LoadAll, ConnectIfHeld, Push, Pull, Taken, LoadedAll, Changes, Moves, MovesAll}
+use Rattle.pair_runs.specs.Moves.{Move, Take, LoadAll, ConnectIfHeld, Push, Pull, Taken, LoadedAll, Changes, MovesAll}
 use Rattle.pair_runs.specs.RunLaws.{DrainsWithoutStop, StopsAtStop, EmptyDrains}
-use Rattle.pair_runs.specs.Runs.{Played, Settles, AreLines, End, Drained, Stopped, Fails, end_by, PlaysLine, Plays, round, MOST, size_after}
+use Rattle.pair_runs.specs.Runs.{Played, AreLines, Drained, Stopped, Fails, end_by, PlaysLine, Plays, round, MOST, size_after}
 use Rattle.pair_runs.specs.Sides.{first_side}
 use Rattle.pair_runs.specs.States.{State, Fault, first_state}
 use Rattle.pair_runs.proofs.Keeping.{first_kept}

@@ -5,7 +5,6 @@ use Rattle.wp_outside.specs.declared.kinds.Direction.TheVariants.{Up}
 use Rattle.wp_outside.specs.declared.kinds.Side.TheVariants.{Near}
 use Rattle.half_model.specs.declared.items.PeerIn.{PeerIn}
 use Rattle.half_model.specs.declared.items.PeerIn.TheVariants as items
-use Rattle.half_model.specs.Group.{Owed}
 use Rattle.pair_model.specs.Quiet.{NoFront}
 use Rattle.side_model.specs.declared.fault.ProxyFault.{ProxyFault}
 use Rattle.side_model.specs.Books.{weight}

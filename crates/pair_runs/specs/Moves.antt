@@ -1,6 +1,6 @@
 -- What moves in a run, one thing after another: items, words, bytes, connections. The moves are
 -- this project's own.
-use Rattle.std.specs.Prelude.{◌≡◌, ℕ, suc, ◌<◌, ◌||◌, ◌&&◌, not, nat_lt, if◌then◌else◌, Bool}
+use Rattle.std.specs.Prelude.{◌≡◌, ℕ, suc, ◌<◌, ◌≤◌, ◌||◌, ◌&&◌, not, nat_lt, if◌then◌else◌, Bool}
 use Rattle.std.specs.Prelude.{true, false, is_none, List, [], ◌∷◌, ◌++◌, take, drop, length}
 use Rattle.std.specs.Prelude.{slice_set, Option, Some, None, option_map, ◌⊎◌}
 use Rattle.wp_outside.specs.declared.kinds.Direction.{Direction}
@@ -100,7 +100,7 @@ ConnectBy None s t =
       line = Some no_lanes;
     })
 ConnectBy (Some it) s t =
-    (it.fault ≡ Limit Connections → connections s ≡ MOST_CONNECTIONS)
+    (it.fault ≡ Limit Connections → MOST_CONNECTIONS ≤ connections s)
     × ConnectFails it.side (suc (connections s)) s t
 
 abbrev pub ConnectedBy : Bool → State → State → Option Fault → Type 0

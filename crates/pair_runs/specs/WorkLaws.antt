@@ -1,7 +1,7 @@
 -- What the calls of a proxy with its records are in a run: each good one works as its move says,
 -- and each bad one in part. Messages are Wayland's; proxies, records and runs are this project's
 -- own.
-use Rattle.std.specs.Prelude.{◌≡◌, ℕ, ◌≤◌, List, [], take, length, Some, None}
+use Rattle.std.specs.Prelude.{◌≡◌, ℕ, ◌<◌, ◌≤◌, List, [], take, length, Some, None}
 use Rattle.std.specs.Prelude.{Ok, Err, true, false, ◌⊎◌}
 use Rattle.std.specs.List.{AllByRecursion}
 use Rattle.std.specs.Option.{MatchOption}
@@ -9,7 +9,10 @@ use Rattle.half_model.specs.declared.items.PeerIn.{PeerIn}
 use Rattle.half_model.specs.Jobs.{Done, is_out, all_back, handed}
 use Rattle.pair_model.specs.Quiet.{NoFront}
 use Rattle.pair_model.specs.Steps.{Here}
+use Rattle.half_model.specs.declared.causes.Limit.TheVariants.{Connections}
 use Rattle.side_model.specs.declared.fault.ProxyFault.{ProxyFault}
+use Rattle.side_model.specs.declared.fault.ProxyFault.TheVariants.{Limit}
+use Rattle.side_model.specs.Calls.{MOST_CONNECTIONS}
 use Rattle.side_model.specs.Events.{Fed, Handed, Lent, Up, Down, Came, Gave, Asks}
 use Rattle.side_model.specs.Follows.{is_message}
 use Rattle.side_model.specs.Shows.{wants_peer, next_item, front_of}
@@ -135,6 +138,14 @@ UpFails = (half connection : ℕ) (fault : ProxyFault) (old new : TrailState) �
     → old.now.live.here ≡ None
     → TrailCalls (Up connection) (Err fault) old new
     → LineInPart connection (side_seen half old) (side_seen half new)
+
+-- there is none above the greatest, and that is the one cause of its limit
+pub record UpLimits : Type 0 where
+  pub good : (connection : ℕ) (old new : TrailState) → RunsOn old
+      → TrailCalls (Up connection) (Ok tt) old new → connection ≤ MOST_CONNECTIONS
+  pub bad : (connection : ℕ) (old new : TrailState) → RunsOn old → old.now.live.here ≡ None
+      → TrailCalls (Up connection) (Err (Limit Connections)) old new
+      → MOST_CONNECTIONS < connection
 
 -- no room is made for the front, which only these faults are the cause of
 abbrev pub LendsFails : Type 0

@@ -12,7 +12,7 @@ ghost use Rattle.pair_runs.specs.RunLaws.{DrainsWithoutStop, StopsAtStop};
 ghost use Rattle.pair_runs.specs.WorkLaws.{FedWorks, CameWorks, AsksWorks, UpIs, DownIs};
 ghost use Rattle.pair_runs.specs.WorkLaws.{LendsIs, SendsIs, WantsIs, NothingLent, KeptByCalls};
 ghost use Rattle.pair_runs.specs.WorkLaws.{FedFails, CameFails, AsksFails};
-ghost use Rattle.pair_runs.specs.WorkLaws.{HandedFails, UpFails, LendsFails, KeptByFault};
+ghost use Rattle.pair_runs.specs.WorkLaws.{HandedFails, UpFails, UpLimits, LendsFails, KeptByFault};
 ghost use Rattle.pair_runs.specs.WorkLaws.{GaveWorks, LentIs, HandedIs, HandedWorks, NoneOut};
 ghost use Rattle.pair_runs.specs.WrongRuns.{SkipsBreak, ConnectsAgain, SkipsNumber, PushesLess};
 ghost use Rattle.pair_runs.specs.WrongRuns.{TakesFree, LoadsWhole, LeavesWaiting, HoldsOutput};
@@ -44,6 +44,7 @@ pub fn calls_fail()
     ensures asks { AsksFails }
     ensures handed { HandedFails }
     ensures up { UpFails }
+    ensures limits { UpLimits }
     ensures lends { LendsFails }
     ensures kept { KeptByFault }
 {}

@@ -1,4 +1,4 @@
-use Rattle.pair_runs.proofs.Failing.{fed_fails, came_fails, asks_fails, handed_fails, up_fails, lends_fails, kept_by_fault}
+use Rattle.pair_runs.proofs.Failing.{fed_fails, came_fails, asks_fails, handed_fails, up_fails, up_limits, lends_fails, kept_by_fault}
 use Rattle.pair_runs.proofs.laws.calls_fail.Goals as goal
 
 pub returns-clause-fed : goal.returns-clause-fed
@@ -21,3 +21,6 @@ returns-clause-lends c = lends_fails
 
 pub returns-clause-kept : goal.returns-clause-kept
 returns-clause-kept c = kept_by_fault
+
+pub returns-clause-limits : goal.returns-clause-limits
+returns-clause-limits c = up_limits
