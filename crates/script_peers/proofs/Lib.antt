@@ -1,0 +1,5 @@
+pub mod OwnLemmas
+pub mod WireLemmas
+pub mod PeerLemmas
+pub mod Unsettled
+pub mod Behind

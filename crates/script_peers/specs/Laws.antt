@@ -1,0 +1,43 @@
+-- What follows of a peer of a replay: that its wire carries what its lines put, once each and in
+-- order, whose bytes are those of the script, and that its files have the writes of the lines.
+use Rattle.std.specs.Prelude.{◌≡◌, ℕ, List, [], ◌∷◌, ◌++◌, Some, codes, true, false}
+use Rattle.wl_tables.specs.Messages.{message_name}
+use Rattle.wl_tables.specs.declared.interface.Interface.TheVariants.{WlSurface, WlKeyboard}
+use Rattle.wp_outside.specs.declared.kinds.Side.{Side}
+use Rattle.half_model.specs.declared.items.PeerIn.{PeerIn}
+use Rattle.half_model.specs.declared.items.PeerOut.{PeerOut}
+use Rattle.script_lang.specs.Puts.{put_by_all}
+use Rattle.script_lang.specs.declared.steps.Step.{Step}
+use Rattle.script_peers.specs.Owning.{Owned}
+use Rattle.script_peers.specs.Peers.{ScriptedPeer, first_peer, Acts, gave}
+use Rattle.script_peers.specs.Scripts.{Puts, bytes_in, IsBehind}
+use Rattle.script_peers.specs.Wires.{Left, next_of}
+use Rattle.script_peers.specs.declared.notable.TheConstants.{COMMIT, KEYMAP}
+
+-- the bytes of what lines put are those of the script
+abbrev pub BytesArePut : Type 0
+BytesArePut =
+    (side : Side) (steps : List Step) (old new : Owned) (put : List PeerIn)
+    → Puts side steps old put new → bytes_in put ≡ put_by_all side steps
+
+-- the bytes that left a wire and those that wait are those of the lines done
+abbrev pub BytesAreKept : Type 0
+BytesAreKept =
+    (steps : List Step) (left : List PeerIn) (peer : ScriptedPeer) → IsBehind steps left peer
+    → bytes_in left ++ bytes_in peer.wire ≡ put_by_all peer.side steps
+
+-- each step of a peer keeps what lines it is behind: no item is lost, doubled or out of order
+pub record StaysBehind : Type 0 where
+  pub first : (side : Side) → IsBehind [] [] (first_peer side)
+  pub acts : (steps : List Step) (left : List PeerIn) (old new : ScriptedPeer) (it : Step)
+      → IsBehind steps left old → Acts it.what old new → IsBehind (steps ++ it ∷ []) left new
+  pub leaves : (steps : List Step) (left : List PeerIn) (old : ScriptedPeer) (most : ℕ) (it : Left)
+      → IsBehind steps left old → next_of most old.wire ≡ Some it
+      → IsBehind steps (left ++ it.item ∷ []) (record old { wire = it.rest })
+  pub gets : (steps : List Step) (left : List PeerIn) (old : ScriptedPeer) (item : PeerOut)
+      → IsBehind steps left old → IsBehind steps left (gave item old)
+
+-- notes go before wl_surface.commit and wl_keyboard.keymap
+pub record NotedByName : Type 0 where
+  pub commit : message_name WlSurface false COMMIT ≡ Some (codes "commit")
+  pub keymap : message_name WlKeyboard true KEYMAP ≡ Some (codes "keymap")

@@ -1,0 +1,24 @@
+//! Laws of the peers of a replay: each function does nothing, and its clause is the law.
+
+ghost use Rattle.script_peers.specs.Laws.{BytesArePut, BytesAreKept, StaysBehind, NotedByName};
+
+/// The bytes of what lines put on a wire are the bytes of the script.
+pub fn bytes_are_put()
+    ensures { BytesArePut }
+{}
+
+/// The bytes that left a wire and those that wait on it are those of the lines done.
+pub fn bytes_are_kept()
+    ensures { BytesAreKept }
+{}
+
+/// Whatever a peer does and is given, what left its wire and what waits there are what its lines
+/// put, and its files have the writes of its lines.
+pub fn stays_behind()
+    ensures { StaysBehind }
+{}
+
+/// A note goes before `wl_surface.commit` and before `wl_keyboard.keymap`.
+pub fn noted_by_name()
+    ensures { NotedByName }
+{}
