@@ -1,6 +1,7 @@
 //! The wire from a peer to its proxy.
 
-ghost use Rattle.std.specs.Prelude.{◌≡◌, ◌≤◌, ◌↔◌, [], ◌∷◌, ◌++◌, length, take, drop, IsTrue, IfOk, OnOk, OnErr};
+ghost use Rattle.std.specs.Prelude.{◌≡◌, ◌≤◌, ◌↔◌, [], ◌∷◌, ◌++◌, length, take, drop};
+ghost use Rattle.std.specs.Prelude.{IsTrue, IfOk, OnOk, OnErr};
 ghost use Rattle.half_model.specs.declared.items.PeerIn.TheVariants as items;
 ghost use Rattle.script_peers.specs.Wires.{IsItem, Leaves, MayStand, next_of};
 ghost use Rattle.script_peers.specs.Fronts.{Leaving, Staying};

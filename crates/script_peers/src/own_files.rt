@@ -1,6 +1,7 @@
 //! The files of a peer.
 
-ghost use Rattle.std.specs.Prelude.{◌≡◌, ◌<◌, [], ◌∷◌, ◌++◌, true, None, length, map, take, IfOk, OnOk, IfSome};
+ghost use Rattle.std.specs.Prelude.{◌≡◌, ◌<◌, [], ◌∷◌, ◌++◌, true, None, length, map};
+ghost use Rattle.std.specs.Prelude.{IfOk, OnOk, IfSome};
 ghost use Rattle.pool_words.specs.Views.{PoolId};
 ghost use Rattle.shm_pools.specs.Files.{after_settle};
 ghost use Rattle.script_peers.specs.Owning.{place_of, changed, is_size, new_file, grown, filled};

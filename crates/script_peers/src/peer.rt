@@ -83,7 +83,8 @@ impl ScriptPeer {
     /// # Errors
     /// Only where memory runs out; nothing is changed then.
     pub fn next(&mut self, most: usize) -> Result<Option<WireItem>, AllocError>
-        ensures leaves { Leaves (next_of most self.old.wire) most self.old.wire self.new.wire result }
+        ensures leaves { Leaves (next_of most self.old.wire) most self.old.wire self.new.wire
+            result }
         ensures same { self.new ≡ record self.old { wire = self.new.wire } }
     {
         self.wire.next(most)
