@@ -3,3 +3,4 @@ pub mod WireLemmas
 pub mod PeerLemmas
 pub mod Unsettled
 pub mod Behind
+pub mod Keeping

@@ -136,7 +136,7 @@ sound_set keys files k f old same stood =
       },
     )
 
-numbers_push : (files : List FileState) (f : FileState) → numbers_of (files ++ f ∷ []) ≡ numbers_of files ++ f.number ∷ []
+pub numbers_push : (files : List FileState) (f : FileState) → numbers_of (files ++ f ∷ []) ≡ numbers_of files ++ f.number ∷ []
 numbers_push [] f = refl
 numbers_push (g ∷ files) f = ap (λ (ns : List ℤ). g.number ∷ ns) (numbers_push files f)
 

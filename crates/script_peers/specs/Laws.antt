@@ -1,14 +1,19 @@
 -- What follows of a peer of a replay: that its wire carries what its lines put, once each and in
 -- order, whose bytes are those of the script, and that its files have the writes of the lines.
-use Rattle.std.specs.Prelude.{◌≡◌, ℕ, List, [], ◌∷◌, ◌++◌, Some, codes, true, false}
+use Rattle.std.specs.Prelude.{◌≡◌, ℕ, ℤ, List, [], ◌∷◌, ◌++◌, Some, codes, true, false}
+use Rattle.std.specs.Prelude.{slice_get}
 use Rattle.wl_tables.specs.Messages.{message_name}
 use Rattle.wl_tables.specs.declared.interface.Interface.TheVariants.{WlSurface, WlKeyboard}
 use Rattle.wp_outside.specs.declared.kinds.Side.{Side}
+use Rattle.pool_words.specs.Views.{EyeState, ReceiptState}
+use Rattle.shm_pools.specs.Files.{FileState}
+use Rattle.half_model.specs.Inlet.{eyes_in}
 use Rattle.half_model.specs.declared.items.PeerIn.{PeerIn}
 use Rattle.half_model.specs.declared.items.PeerOut.{PeerOut}
 use Rattle.script_lang.specs.Puts.{put_by_all}
 use Rattle.script_lang.specs.declared.steps.Step.{Step}
-use Rattle.script_peers.specs.Owning.{Owned}
+use Rattle.script_lang.specs.declared.steps.StepKind.{StepKind}
+use Rattle.script_peers.specs.Owning.{Owned, note_on, IsOwnReceipt}
 use Rattle.script_peers.specs.Peers.{ScriptedPeer, first_peer, Acts, gave}
 use Rattle.script_peers.specs.Scripts.{Puts, bytes_in, IsBehind}
 use Rattle.script_peers.specs.Wires.{Left, next_of}
@@ -41,3 +46,20 @@ pub record StaysBehind : Type 0 where
 pub record NotedByName : Type 0 where
   pub commit : message_name WlSurface false COMMIT ≡ Some (codes "commit")
   pub keymap : message_name WlKeyboard true KEYMAP ≡ Some (codes "keymap")
+
+-- a receipt of an eye that a note holds is one for the pen of its segment, and stays so whatever the
+-- peer does and is given: so that it can be settled
+pub record ReceiptsAreOwn : Type 0 where
+  pub noted : (files : List FileState) (number : ℤ) (segment : ℕ) (eye : EyeState)
+      (receipt : ReceiptState)
+      → slice_get (eyes_in number (Some (note_on files))) segment ≡ Some eye
+      → receipt.number ≡ eye.number → receipt.pool ≡ eye.pool
+      → IsOwnReceipt number segment receipt files
+  pub acts : (old new : ScriptedPeer) (what : StepKind) (number : ℤ) (segment : ℕ)
+      (receipt : ReceiptState)
+      → IsOwnReceipt number segment receipt old.own.files → Acts what old new
+      → IsOwnReceipt number segment receipt new.own.files
+  pub gets : (old : ScriptedPeer) (item : PeerOut) (number : ℤ) (segment : ℕ)
+      (receipt : ReceiptState)
+      → IsOwnReceipt number segment receipt old.own.files
+      → IsOwnReceipt number segment receipt (gave item old).own.files

@@ -1,6 +1,7 @@
 //! Laws of the peers of a replay: each function does nothing, and its clause is the law.
 
 ghost use Rattle.script_peers.specs.Laws.{BytesArePut, BytesAreKept, StaysBehind, NotedByName};
+ghost use Rattle.script_peers.specs.Laws.{ReceiptsAreOwn};
 
 /// The bytes of what lines put on a wire are the bytes of the script.
 pub fn bytes_are_put()
@@ -21,4 +22,10 @@ pub fn stays_behind()
 /// A note goes before `wl_surface.commit` and before `wl_keyboard.keymap`.
 pub fn noted_by_name()
     ensures { NotedByName }
+{}
+
+/// A receipt of an eye that a peer put on its wire can be settled with the peer, whatever it did
+/// since.
+pub fn receipts_are_own()
+    ensures { ReceiptsAreOwn }
 {}
