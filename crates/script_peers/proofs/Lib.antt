@@ -4,3 +4,4 @@ pub mod PeerLemmas
 pub mod Unsettled
 pub mod Behind
 pub mod Keeping
+pub mod Fills

@@ -1,19 +1,20 @@
 -- What follows of a peer of a replay: that its wire carries what its lines put, once each and in
 -- order, whose bytes are those of the script, and that its files have the writes of the lines.
 use Rattle.std.specs.Prelude.{◌≡◌, ℕ, ℤ, List, [], ◌∷◌, ◌++◌, Some, codes, true, false}
-use Rattle.std.specs.Prelude.{slice_get}
+use Rattle.std.specs.Prelude.{slice_get, zero, suc, ◌+◌, ◌<◌, ◌==◌, if◌then◌else◌, length}
 use Rattle.wl_tables.specs.Messages.{message_name}
 use Rattle.wl_tables.specs.declared.interface.Interface.TheVariants.{WlSurface, WlKeyboard}
 use Rattle.wp_outside.specs.declared.kinds.Side.{Side}
-use Rattle.pool_words.specs.Views.{EyeState, ReceiptState}
-use Rattle.shm_pools.specs.Files.{FileState}
+use Rattle.pool_words.specs.declared.views.Write.{Write}
+use Rattle.pool_words.specs.Views.{EyeState, ReceiptState, write}
+use Rattle.shm_pools.specs.Files.{FileState, pen_sizes, pen_at, segment_of, offset_of}
 use Rattle.half_model.specs.Inlet.{eyes_in}
 use Rattle.half_model.specs.declared.items.PeerIn.{PeerIn}
 use Rattle.half_model.specs.declared.items.PeerOut.{PeerOut}
 use Rattle.script_lang.specs.Puts.{put_by_all}
 use Rattle.script_lang.specs.declared.steps.Step.{Step}
 use Rattle.script_lang.specs.declared.steps.StepKind.{StepKind}
-use Rattle.script_peers.specs.Owning.{Owned, note_on, IsOwnReceipt}
+use Rattle.script_peers.specs.Owning.{Owned, note_on, written_from, IsOwnReceipt}
 use Rattle.script_peers.specs.Peers.{ScriptedPeer, first_peer, Acts, gave}
 use Rattle.script_peers.specs.Scripts.{Puts, bytes_in, IsBehind}
 use Rattle.script_peers.specs.Wires.{Left, next_of}
@@ -63,3 +64,20 @@ pub record ReceiptsAreOwn : Type 0 where
       (receipt : ReceiptState)
       → IsOwnReceipt number segment receipt old.own.files
       → IsOwnReceipt number segment receipt (gave item old).own.files
+
+-- the writes to one segment among those of so many words of a file of these sizes, in order
+abbrev pub writes_in : List ℕ → ℕ → ℕ → ℕ → ℕ → List Write
+writes_in sizes segment first zero value = []
+writes_in sizes segment first (suc count) value =
+    writes_in sizes segment first count value
+    ++ (if segment_of sizes (first + count) == segment
+    then write (offset_of sizes (first + count)) value ∷ [] else [])
+
+-- words that are written one after another add to the history of each segment just the writes of its
+-- own words
+abbrev pub FillsWrite : Type 0
+FillsWrite =
+    (f : FileState) (first count value segment : ℕ) → segment < length f.segments
+    → (pen_at (written_from first count value f).segments segment).history
+    ≡ (pen_at f.segments segment).history
+    ++ writes_in (pen_sizes f.segments) segment first count value

@@ -1,7 +1,7 @@
 //! Laws of the peers of a replay: each function does nothing, and its clause is the law.
 
 ghost use Rattle.script_peers.specs.Laws.{BytesArePut, BytesAreKept, StaysBehind, NotedByName};
-ghost use Rattle.script_peers.specs.Laws.{ReceiptsAreOwn};
+ghost use Rattle.script_peers.specs.Laws.{ReceiptsAreOwn, FillsWrite};
 
 /// The bytes of what lines put on a wire are the bytes of the script.
 pub fn bytes_are_put()
@@ -28,4 +28,9 @@ pub fn noted_by_name()
 /// since.
 pub fn receipts_are_own()
     ensures { ReceiptsAreOwn }
+{}
+
+/// Words that a line fills are written one after another, each to its segment, and nothing else is.
+pub fn fills_write()
+    ensures { FillsWrite }
 {}
