@@ -1,5 +1,5 @@
 -- A peer behind lines: each step of it keeps that its wire carries what the lines put.
-use Rattle.std.proofs.Common.{◌≡◌, ℕ, zero, suc, ℤ, Bool, true, false, cond, List, [], ◌∷◌, ◌++◌, length, take, drop, map, filter_map, Option, Some, None, option_map, nat_le, refl, sym, ap, ◌∙◌, subst, append_assoc}
+use Rattle.std.proofs.Common.{◌≡◌, ℕ, zero, suc, ℤ, Bool, true, false, cond, List, [], ◌∷◌, ◌++◌, take, drop, map, Option, Some, None, option_map, refl, sym, ap, ◌∙◌, subst, append_assoc}
 use Rattle.std.specs.Prelude.{min}
 use Rattle.std.specs.List.{flat_map, cons_option}
 use Rattle.std.proofs.lemmas.List.{append-nil, map-append}
@@ -21,8 +21,8 @@ use Rattle.script_lang.specs.declared.steps.StepKind.{StepKind}
 use Rattle.script_lang.specs.declared.steps.StepKind.TheVariants as line
 use Rattle.script_peers.specs.Laws.{BytesArePut, BytesAreKept, StaysBehind}
 use Rattle.script_peers.specs.Owning.{Owned, owns_nothing, handle_of}
-use Rattle.script_peers.specs.Peers.{ScriptedPeer, first_peer, did, acted, Acts, gave}
-use Rattle.script_peers.specs.Putting.{is_side, is_own, wants_note, note_if, handle_item, handle_items, said, is_pipe_piece, pipe_piece, items_by, owned_after}
+use Rattle.script_peers.specs.Peers.{ScriptedPeer, did, acted, gave}
+use Rattle.script_peers.specs.Putting.{is_side, is_own, wants_note, note_if, handle_items, said, is_pipe_piece, pipe_piece, items_by, owned_after}
 use Rattle.script_peers.specs.Scripts.{put_by, owned_by, Puts, unsettled, Grain, Byte, Whole, grains_of, grains, bytes_of, bytes_in, IsBehind}
 use Rattle.script_peers.specs.Wires.{Left, leaving, next_of, piece_of}
 use Rattle.script_peers.specs.declared.item_queue.TheConstants.{LARGEST_PIECE}

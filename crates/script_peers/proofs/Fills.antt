@@ -1,10 +1,10 @@
 -- The writes of a line that fills words of a file, segment by segment.
-use Rattle.std.proofs.Common.{◌≡◌, ◌≢◌, ℕ, zero, suc, ◌+◌, ◌<◌, Bool, cond, List, [], ◌∷◌, ◌++◌, length, set, refl, sym, ap, ◌∙◌, arith, eq-eqb, ne_eqb, append_assoc, eqb}
+use Rattle.std.proofs.Common.{◌≡◌, ℕ, zero, suc, ◌+◌, ◌<◌, Bool, cond, List, [], ◌∷◌, ◌++◌, length, set, refl, sym, ap, ◌∙◌, arith, eq-eqb, ne_eqb, append_assoc, eqb}
 use Rattle.std.proofs.lemmas.List.{append-nil, get_or-set_same, get_or-set_other, length-map}
 use native.Mathlib.Decide.{ℕ_discrete}
 use Rattle.pool_words.specs.declared.views.Write.{Write}
 use Rattle.pool_words.specs.Views.{PenState, wrote, write}
-use Rattle.shm_pools.specs.Files.{FileState, pen_sizes, pen_at, no_pen, segment_of, offset_of, after_write}
+use Rattle.shm_pools.specs.Files.{FileState, pen_sizes, pen_at, no_pen, segment_of, offset_of}
 use Rattle.script_peers.specs.Laws.{writes_in, FillsWrite}
 use Rattle.script_peers.specs.Owning.{written_from}
 use Rattle.script_peers.proofs.OwnLemmas.{sizes_after_write}

@@ -1,5 +1,5 @@
 -- A receipt of an eye that a note holds is for the pen of its segment, and stays so.
-use Rattle.std.proofs.Common.{◌≡◌, ℕ, zero, suc, ◌+◌, ◌-◌, ◌/◌, ◌<◌, ℤ, Bool, true, false, ◌&&◌, cond, List, [], ◌∷◌, ◌++◌, length, set, get_or, map, Option, Some, None, position, nat_lt, refl, sym, ap, ◌∙◌, subst, arith, length-append, length-set, ne_eqb, ◌≢◌}
+use Rattle.std.proofs.Common.{◌≡◌, ℕ, zero, suc, ◌+◌, ◌-◌, ◌/◌, ◌<◌, ℤ, Bool, true, false, ◌&&◌, cond, List, [], ◌∷◌, ◌++◌, length, set, map, Option, Some, None, position, nat_lt, refl, sym, ap, ◌∙◌, subst, arith, length-append, length-set, ne_eqb, ◌≢◌}
 use Rattle.std.specs.Prelude.{not, find}
 use Rattle.std.specs.List.{position_or_len, slice_get}
 use Rattle.std.specs.Ordering.{int_eq}
@@ -10,16 +10,15 @@ use Rattle.std.proofs.lemmas.List.Quantifiers.{position-Some}
 use native.Mathlib.Decide.{ℕ_discrete}
 use Rattle.pool_words.specs.Views.{PoolId, PenState, EyeState, ReceiptState, wrote, took, note_of}
 use Rattle.shm_pools.specs.Files.{FileState, pen_sizes, pen_at, no_pen, segment_of, offset_of, after_write, after_settle}
-use Rattle.shm_pools.specs.declared.notes.FileEyes.{FileEyes}
-use Rattle.half_model.specs.Inlet.{eyes_found, eyes_in}
+use Rattle.half_model.specs.Inlet.{eyes_found}
 use Rattle.half_model.specs.declared.items.PeerOut.{PeerOut}
 use Rattle.half_model.specs.declared.items.PeerOut.TheVariants as outputs
 use Rattle.script_lang.specs.declared.steps.StepKind.{StepKind}
 use Rattle.script_lang.specs.declared.steps.StepKind.TheVariants as line
 use Rattle.script_peers.specs.Laws.{ReceiptsAreOwn}
-use Rattle.script_peers.specs.Owning.{Owned, numbers_of, place_of, file_at, no_file, changed, is_size, words_of, blank, new_file, can_grow, longer, grown, written_from, has_words, filled, eyes_on, note_on, IsReceiptIn, IsOwnReceipt}
-use Rattle.script_peers.specs.Peers.{ScriptedPeer, did, acted, Acts, gave}
-use Rattle.script_peers.specs.Putting.{is_own, is_free, with_file, with_pipe, owned_after}
+use Rattle.script_peers.specs.Owning.{Owned, numbers_of, place_of, file_at, no_file, changed, is_size, words_of, blank, new_file, can_grow, longer, grown, written_from, has_words, filled, eyes_on, IsReceiptIn, IsOwnReceipt}
+use Rattle.script_peers.specs.Peers.{ScriptedPeer, did, acted, gave}
+use Rattle.script_peers.specs.Putting.{is_own, is_free, owned_after}
 use Rattle.script_peers.proofs.OwnLemmas.{numbers_set, numbers_push}
 
 -- each segment is of its pool still

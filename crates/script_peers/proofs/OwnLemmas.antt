@@ -1,5 +1,5 @@
 -- What stays of the files of a peer once one of them has changed.
-use Rattle.std.proofs.Common.{◌≡◌, ℕ, zero, suc, ◌+◌, ◌-◌, ◌/◌, ◌<◌, ◌≤◌, ℤ, Bool, true, false, cond, List, [], ◌∷◌, ◌++◌, length, set, get_or, map, Option, Some, None, position, refl, sym, ap, ◌∙◌, subst, arith, add-one, length-append, length-set}
+use Rattle.std.proofs.Common.{◌≡◌, ℕ, zero, suc, ◌+◌, ◌-◌, ◌/◌, ◌<◌, ◌≤◌, ℤ, Bool, true, false, cond, List, [], ◌∷◌, ◌++◌, length, set, get_or, Some, None, position, refl, sym, ap, ◌∙◌, subst, arith, add-one, length-append, length-set}
 use Rattle.std.specs.Prelude.{All, sum, not, ◌||◌}
 use Rattle.std.specs.List.{position_or_len, list_any, IsDistinct}
 use Rattle.std.specs.Ordering.{int_eq}

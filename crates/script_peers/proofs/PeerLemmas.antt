@@ -1,5 +1,5 @@
 -- What a peer's own doing changes of it.
-use Rattle.std.proofs.Common.{◌≡◌, ℕ, ◌+◌, ◌<◌, ℤ, Bool, true, false, ◌&&◌, cond, List, [], ◌∷◌, ◌++◌, length, take, get_or, Option, Some, None, is_some, is_none, option_map, position, refl, sym, ap, ◌∙◌, append_assoc}
+use Rattle.std.proofs.Common.{◌≡◌, ℕ, ◌+◌, ◌<◌, ℤ, Bool, true, false, ◌&&◌, cond, List, [], ◌∷◌, ◌++◌, length, take, get_or, Option, Some, None, is_some, is_none, option_map, refl, sym, ap, ◌∙◌, append_assoc}
 use Rattle.std.specs.List.{cons_option}
 use Rattle.std.proofs.lemmas.List.{append-nil, take_more}
 use Rattle.std.proofs.lemmas.List.Elements.{filter_map-append}
@@ -11,7 +11,7 @@ use Rattle.wp_outside.specs.declared.kinds.Side.{Side}
 use Rattle.half_model.specs.declared.items.PeerIn.{PeerIn}
 use Rattle.half_model.specs.declared.items.PeerIn.TheVariants as items
 use Rattle.shm_pools.specs.Files.{FileState}
-use Rattle.script_peers.specs.Owning.{Owned, kind_of, handle_of, is_size, new_file, place_of, changed}
+use Rattle.script_peers.specs.Owning.{Owned, kind_of, is_size, new_file, place_of, changed}
 use Rattle.script_lang.specs.declared.steps.StepKind.{StepKind}
 use Rattle.script_lang.specs.declared.steps.StepKind.TheVariants as line
 use Rattle.script_peers.specs.Peers.{ScriptedPeer, with_items, did}

@@ -15,7 +15,7 @@ use Rattle.half_model.specs.declared.items.PeerIn.{PeerIn}
 use Rattle.half_model.specs.declared.items.PeerIn.TheVariants as items
 use Rattle.script_lang.specs.declared.steps.StepKind.{StepKind}
 use Rattle.script_lang.specs.declared.steps.StepKind.TheVariants as line
-use Rattle.script_peers.specs.Owning.{Owned, numbers_of, place_of, file_at, no_file, changed, kind_by, kind_of, is_pipe, is_size, words_of, blank, new_file, can_grow, longer, grown, written_from, has_words, filled, eyes_on, note_on}
+use Rattle.script_peers.specs.Owning.{Owned, numbers_of, place_of, file_at, changed, kind_by, is_pipe, is_size, words_of, blank, new_file, can_grow, longer, grown, written_from, has_words, filled, eyes_on}
 use Rattle.script_peers.specs.Putting.{wants_note, note_if, handle_items, said, items_by, is_free, with_file, with_pipe, with_changed, owned_after}
 use Rattle.script_peers.specs.Wires.{piece_of}
 use Rattle.script_peers.specs.Scripts.{unsettled_pen, unsettled_file, unsettled}

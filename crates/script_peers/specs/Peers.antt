@@ -1,6 +1,6 @@
 -- A peer of a replay as plain data, and what its lines and the items that it is given change. The
 -- language of scripts is this project's own.
-use Rattle.std.specs.Prelude.{◌≡◌, ℕ, true, List, [], ◌∷◌, ◌++◌, if◌then◌else◌, ℤ, Option, None}
+use Rattle.std.specs.Prelude.{◌≡◌, ℕ, List, [], ◌++◌, if◌then◌else◌, ℤ}
 use Rattle.wp_outside.specs.declared.kinds.Side.{Side}
 use Rattle.pool_words.specs.Views.{PoolId, ReceiptState}
 use Rattle.shm_pools.specs.Files.{FileState, after_settle}

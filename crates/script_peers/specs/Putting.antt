@@ -1,6 +1,6 @@
 -- What the lines of a peer put on its wire and change of what it owns, as the language of scripts
 -- says, which is this project's own. Messages, and what a commit and a keymap are, are Wayland's.
-use Rattle.std.specs.Prelude.{◌≡◌, ℕ, Bool, true, false, ◌&&◌, ◌==◌, ℤ, List, [], ◌∷◌, ◌++◌, length}
+use Rattle.std.specs.Prelude.{ℕ, Bool, true, false, ◌&&◌, ◌==◌, ℤ, List, [], ◌∷◌, ◌++◌, length}
 use Rattle.std.specs.Prelude.{filter_map, Option, Some, None, is_none, option_map, nat_le}
 use Rattle.std.specs.Prelude.{if◌then◌else◌}
 use Rattle.wl_text.specs.declared.text_message.TextMessage.{TextMessage}

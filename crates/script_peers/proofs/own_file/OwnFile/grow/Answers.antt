@@ -1,9 +1,9 @@
 use Rattle.std.proofs.Common.{◌≡◌, ◌<◌, ◌/◌, Bool, true, cond, ap, sym, ◌∙◌, subst}
 use Rattle.std.proofs.lemmas.Bool.Decides.{nat_tests}
 use Rattle.std.proofs.Common.{arith}
-use Rattle.pool_words.specs.Views.{PoolId, no_pool}
+use Rattle.pool_words.specs.Views.{no_pool}
 use Rattle.shm_pools.specs.Files.{FileState, HasGrown}
-use Rattle.script_peers.specs.Owning.{IsStood, can_grow, grown, longer, is_size, words_of}
+use Rattle.script_peers.specs.Owning.{IsStood, can_grow, longer, words_of}
 use Rattle.script_peers.proofs.OwnLemmas.{counted_grown, grown_is}
 use Rattle.script_peers.proofs.own_file.OwnFile.grow.Goals as goal
 

@@ -4,7 +4,7 @@ use Rattle.std.proofs.lemmas.List.{get_or_default}
 use Rattle.std.proofs.lemmas.Result.{on_ok_weaker}
 use Rattle.pool_words.specs.Views.{PoolId, no_pool}
 use Rattle.shm_pools.specs.Files.{FileState}
-use Rattle.script_peers.specs.Owning.{no_file, place_of, filled, grown}
+use Rattle.script_peers.specs.Owning.{no_file, place_of, grown}
 use Rattle.script_peers.proofs.OwnLemmas.{sound_set, changed_there, changed_nowhere}
 use Rattle.script_peers.proofs.own_files.OwnFiles.grow.Goals as goal
 

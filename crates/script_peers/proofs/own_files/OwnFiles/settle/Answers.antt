@@ -1,4 +1,4 @@
-use Rattle.std.proofs.Common.{◌≡◌, ◌<◌, ℕ, ℤ, List, length, Some, None, ap, sym, ◌∙◌, subst, w32}
+use Rattle.std.proofs.Common.{◌≡◌, ◌<◌, ℤ, List, length, Some, None, ap, sym, ◌∙◌, subst, w32}
 use Rattle.std.proofs.lemmas.Int.{to_z-of_z}
 use Rattle.std.proofs.lemmas.List.{get_or_default}
 use Rattle.shm_pools.specs.Files.{FileState, after_settle}

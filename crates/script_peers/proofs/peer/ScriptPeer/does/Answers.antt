@@ -1,4 +1,4 @@
-use Rattle.std.proofs.Common.{◌≡◌, ℕ, ℤ, List, ◌∷◌, [], FitsSigned, rules, ap, sym, ◌∙◌, w32}
+use Rattle.std.proofs.Common.{ℕ, ℤ, List, ◌∷◌, [], FitsSigned, rules, ap, sym, ◌∙◌, w32}
 use Rattle.std.proofs.lemmas.Int.{to_z-of_z}
 use Rattle.std.proofs.lemmas.Result.{on_ok_weaker}
 use Rattle.pool_words.specs.Views.{no_pool}

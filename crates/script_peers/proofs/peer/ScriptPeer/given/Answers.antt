@@ -1,4 +1,4 @@
-use Rattle.std.proofs.Common.{◌≡◌, ℤ, FitsSigned, rules, ap, sym, ◌∙◌, w32}
+use Rattle.std.proofs.Common.{ℤ, FitsSigned, rules, ap, sym, ◌∙◌, w32}
 use Rattle.std.proofs.lemmas.Int.{to_z-of_z}
 use Rattle.std.proofs.lemmas.Result.{on_ok_weaker}
 use Rattle.half_model.specs.declared.items.PeerOut.{PeerOut}

@@ -1,4 +1,4 @@
-use Rattle.std.proofs.Common.{◌≡◌, ℤ, Bool, false, ◌&&◌, is_none, ap, sym, ◌∙◌, w32}
+use Rattle.std.proofs.Common.{ℤ, Bool, ◌&&◌, is_none, ap, sym, ◌∙◌, w32}
 use Rattle.std.specs.Prelude.{not}
 use Rattle.std.proofs.lemmas.Int.{to_z-of_z}
 use Rattle.pool_words.specs.Views.{no_pool}
