@@ -48,8 +48,8 @@ pub record NotedByName : Type 0 where
   pub commit : message_name WlSurface false COMMIT ≡ Some (codes "commit")
   pub keymap : message_name WlKeyboard true KEYMAP ≡ Some (codes "keymap")
 
--- a receipt of an eye that a note holds is one for the pen of its segment, and stays so whatever the
--- peer does and is given: so that it can be settled
+-- a receipt of an eye that a note holds is one for the pen of its segment, and stays so whatever
+-- the peer does and is given: so that it can be settled
 pub record ReceiptsAreOwn : Type 0 where
   pub noted : (files : List FileState) (number : ℤ) (segment : ℕ) (eye : EyeState)
       (receipt : ReceiptState)
@@ -73,8 +73,8 @@ writes_in sizes segment first (suc count) value =
     ++ (if segment_of sizes (first + count) == segment
     then write (offset_of sizes (first + count)) value ∷ [] else [])
 
--- words that are written one after another add to the history of each segment just the writes of its
--- own words
+-- words that are written one after another add to the history of each segment just the writes of
+-- its own words
 abbrev pub FillsWrite : Type 0
 FillsWrite =
     (f : FileState) (first count value segment : ℕ) → segment < length f.segments
