@@ -6,6 +6,7 @@ ghost use Rattle.owed_groups.specs.Lending.{done_of};
 ghost use Rattle.side_model.specs.Shows.{has_ended};
 ghost use Rattle.side_model.specs.Trails.{no_records, Keeps};
 ghost use Rattle.trail_records.specs.Noting.{trail_of};
+ghost use Rattle.proxy_core.specs.Offering.{may_connect};
 ghost use Rattle.proxy_trail.specs.Kept.{wants_peer};
 
 mod feeding;
@@ -91,6 +92,15 @@ impl Trail {
         self.proxy.awaits(done)
     }
 
+    /// Whether `link_up` may be called with this number, as its proxy tells it. Takes no memory.
+    pub fn may_connect(&self, connection: u32) -> bool
+        ensures exact { result ≡ may_connect self.now.now connection }
+        ensures down { result ≡ true → self.now.fault ≡ None → self.now.now.live.here ≡ None }
+        ensures later { result ≡ true → self.now.now.kept.last < connection }
+    {
+        self.proxy.may_connect(connection)
+    }
+
     /// Whether the other side's CLOSE was accepted. Takes no memory.
     pub fn heard_close(&self) -> bool
         ensures { result ≡ self.now.now.kept.heard_close }
@@ -117,6 +127,14 @@ impl Trail {
         ensures { result ≡ self.now.book.trail.acknowledged }
     {
         self.book.record().acknowledged
+    }
+
+    /// For how many bytes that were lent there is room in its records: `link_sent` takes no more. Takes
+    /// no memory.
+    pub fn room(&self) -> usize
+        ensures { result ≡ self.now.book.trail.lines.room }
+    {
+        self.book.room()
     }
 
     /// The record.
