@@ -1,5 +1,6 @@
 """What the measurements share: building the program, running it on a file, and a row of figures."""
 import atexit
+import contextlib
 import functools
 import os
 import subprocess
@@ -60,6 +61,18 @@ def job_seconds(crate, folder, *job):
     with open(path, "w") as out:
         print(*job, file=out)
     return measure([os.path.join(ROOT, "crates", crate, "out", crate)], path)[0]
+
+
+@contextlib.contextmanager
+def kept_memory():
+    """Meanwhile the C library's allocator gives no block of up to 32 MiB that is let go back to the system."""
+    limits = {"MALLOC_MMAP_THRESHOLD_": str(32 << 20), "MALLOC_TRIM_THRESHOLD_": str(64 << 20)}
+    os.environ.update(limits)
+    try:
+        yield
+    finally:
+        for name in limits:
+            del os.environ[name]
 
 
 def output(words, path):

@@ -103,6 +103,9 @@ def halves(folder):
     plain = seconds(folder, "copies", size // 8, rounds)
     made = half_seconds(folder, "pictures", 1, rounds)
     print(f"{size:8} bytes: {size * rounds / made / 1e9:6.2f} GB of images per second become frames, {made / plain:.2f} times a plain copy's time")
+    with figures.kept_memory():
+        made = half_seconds(folder, "pictures", 1, rounds)
+    print(f"{size:8} bytes: the same where the allocator keeps freed memory, {made / plain:.2f} times a plain copy's time")
     given = half_seconds(folder, "images", size, rounds) - half_seconds(folder, "untaken", size, rounds)
     print(f"{size:8} bytes: {size * rounds / given / 1e9:6.2f} GB of images per second are given, {given / plain:.2f} times a plain copy's time")
 
