@@ -3,6 +3,7 @@
 ghost use Rattle.std.specs.Prelude.{◌≡◌, ◌<◌, ◌≤◌, IfOk, MatchOption, length, None, Some, true, false};
 ghost use Rattle.half_model.specs.Jobs.{awaits};
 ghost use Rattle.owed_groups.specs.Lending.{done_of};
+ghost use Rattle.side_model.specs.Books.{weight};
 ghost use Rattle.side_model.specs.Shows.{has_ended};
 ghost use Rattle.side_model.specs.Trails.{no_records, Keeps};
 ghost use Rattle.trail_records.specs.Noting.{trail_of};
@@ -135,6 +136,13 @@ impl Trail {
         ensures { result ≡ self.now.book.trail.lines.room }
     {
         self.book.room()
+    }
+
+    /// The weight of its record, in bytes: at most 268,435,456. Takes no memory.
+    pub fn weight(&self) -> u64
+        ensures { result ≡ weight self.now.book.trail }
+    {
+        self.book.weight()
     }
 
     /// The record.
