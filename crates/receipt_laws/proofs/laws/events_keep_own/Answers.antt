@@ -1,0 +1,8 @@
+use Rattle.receipt_laws.proofs.Events.{events_keep, parts_keep}
+use Rattle.receipt_laws.proofs.laws.events_keep_own.Goals as goal
+
+pub returns-clause-one : goal.returns-clause-one
+returns-clause-one g c = events_keep g.O.Owner.own
+
+pub returns-clause-row : goal.returns-clause-row
+returns-clause-row g c = parts_keep g.O.Owner.own
