@@ -19,7 +19,7 @@ use Rattle.receipt_laws.specs.OutLaws.{CopyIsBack, BackIsAwaited}
 not_done : {P : Type 0} (done : Done) (job : Job) → IsIn job → is_done done job ≡ true → P
 not_done done job h e = absurd (false≢true (sym h ∙ (and_parts (is_out job.state) _ e).0))
 
-is_not_done : (done : Done) (job : Job) → IsIn job → is_done done job ≡ false
+pub is_not_done : (done : Done) (job : Job) → IsIn job → is_done done job ≡ false
 is_not_done done job h = and_left (is_out job.state) _ h
 
 none_awaits : (done : Done) (jobs : List Job) → AllByRecursion IsIn jobs → awaits jobs done ≡ false

@@ -6,3 +6,4 @@ pub mod Calls
 pub mod Jobs
 pub mod Outs
 pub mod OutCalls
+pub mod Needs

@@ -1,20 +1,22 @@
 -- What holds of a proxy all of whose receipts are own: each of its calls keeps it, and what it
 -- lends and gives is own; this project's own.
-use Rattle.std.specs.Prelude.{◌≡◌, ℕ, ℤ, List, Some, None, Result}
+use Rattle.std.specs.Prelude.{◌≡◌, ℕ, ℤ, true, List, Some, None, Result}
 use Rattle.wp_outside.specs.declared.kinds.Side.{Side}
 use Rattle.pool_words.specs.Views.{EyeState, ReceiptState}
+use Rattle.shm_pools.specs.declared.notes.Note.{Note}
+use Rattle.half_model.specs.declared.items.PeerIn.TheVariants as inputs
 use Rattle.half_model.specs.declared.items.PeerOut.{PeerOut}
-use Rattle.half_model.specs.Jobs.{Job, Waits, Done, first_waiting}
+use Rattle.half_model.specs.Jobs.{Job, Waits, Done, first_waiting, is_done}
 use Rattle.side_model.specs.declared.fault.ProxyFault.{ProxyFault}
 use Rattle.side_model.specs.Calls.{Part}
-use Rattle.side_model.specs.Events.{Event, Handed}
+use Rattle.side_model.specs.Events.{Event, Fed, Handed}
 use Rattle.side_model.specs.Shows.{next_item}
 use Rattle.side_model.specs.State.{Now}
 use Rattle.side_model.specs.Steps.{step}
 use Rattle.side_model.specs.Trails.{TrailState, no_records, TrailCalls, trail_step, Sends, Lends}
-use Rattle.receipt_laws.specs.Owning.{Ownership, EyeIsOwn, GivenIsOwn, AllOwn, BringsOwn}
-use Rattle.receipt_laws.specs.Owning.{TrailIsOwn}
-use Rattle.receipt_laws.specs.Lending.{OneOut, IsBackOf}
+use Rattle.receipt_laws.specs.Owning.{Ownership, EyeIsOwn, NoteIsOwn, GivenIsOwn}
+use Rattle.receipt_laws.specs.Owning.{AllOwn, BringsOwn, TrailIsOwn}
+use Rattle.receipt_laws.specs.Lending.{OneOut, IsBackOf, sent_out}
 
 -- ---- each event keeps it
 
@@ -31,6 +33,14 @@ EventsKeepOwn Own =
 abbrev pub PartsKeepOwn : Ownership → Type 0
 PartsKeepOwn Own =
     (s t : Now) (events : List Event) → AllOwn Own s → Part s events t → AllOwn Own t
+
+-- what an event brings has to be own: a note, and the receipt of the copy that is out
+pub record NeedsOwn (Own : Ownership) : Type 0 where
+  pub note : (note : Note) (s : Now) → AllOwn Own (step (Fed (inputs.Note note)) s)
+      → NoteIsOwn Own note
+  pub handed : (job : Job) (done : Done) (s : Now) → OneOut job s.kept.jobs
+      → is_done done (sent_out job) ≡ true → AllOwn Own (step (Handed done) s)
+      → Own job.part.file job.part.segment done.receipt
 
 -- ---- each call keeps it
 

@@ -1,6 +1,6 @@
 //! Laws of receipts and of copies: each function does nothing, and its clauses are the law.
 
-ghost use Rattle.receipt_laws.specs.OwnLaws.{OwnAtFirst, EventsKeepOwn, PartsKeepOwn};
+ghost use Rattle.receipt_laws.specs.OwnLaws.{OwnAtFirst, EventsKeepOwn, PartsKeepOwn, NeedsOwn};
 ghost use Rattle.receipt_laws.specs.OwnLaws.{CallsKeepOwn, StepsKeepOwn, SendsKeepOwn};
 ghost use Rattle.receipt_laws.specs.OwnLaws.{LendsKeepOwn, LentIsOwn, BackIsOwn, GivesOwn};
 ghost use Rattle.receipt_laws.specs.OwnLaws.{MoreIsOwn};
@@ -12,10 +12,11 @@ ghost use Rattle.receipt_laws.specs.OutLaws.{SendsLeave, CallsLend, CallsHand};
 use crate::owner::Owner;
 
 /// Each event of a proxy keeps all its receipts own, where a note that its peer puts is own and a
-/// copy that is handed back has an own receipt.
+/// copy that is handed back has an own receipt; else it does not.
 pub fn events_keep_own<O: Owner>()
     ensures one { EventsKeepOwn O.own }
     ensures row { PartsKeepOwn O.own }
+    ensures needs { NeedsOwn O.own }
 {}
 
 /// A proxy with empty records has own receipts alone, and each of its calls keeps this.

@@ -10,3 +10,6 @@ pub use laws::{
     lent_is_own, more_is_own,
 };
 pub use owner::Owner;
+
+#[cfg(test)]
+mod tests;
