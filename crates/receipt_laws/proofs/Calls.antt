@@ -1,5 +1,5 @@
 -- Each call of a proxy with its records keeps all its receipts own, and what it lends and gives is own.
-use Rattle.std.proofs.Common.{◌≡◌, ℕ, List, [], ◌∷◌, ◌++◌, Bool, true, false, cond, Option, Some, None, Result, Ok, Err, refl, sym, ap, subst, ◌∙◌, find}
+use Rattle.std.proofs.Common.{◌≡◌, ℕ, List, [], ◌∷◌, ◌++◌, Bool, true, false, cond, Option, Some, None, Result, Ok, Err, refl, sym, ap, subst, ◌∙◌, MatchOption}
 use Rattle.std.specs.List.{AllByRecursion}
 use Rattle.pool_words.specs.Views.{EyeState, ReceiptState}
 use Rattle.half_model.specs.declared.items.PeerOut.{PeerOut}
@@ -118,17 +118,13 @@ module _ (Own : Ownership) where
   lent_is_own s job eye h found state =
       subst (λ (it : JobState). StateIsOwn Own job.part it) state (first_has (JobIsOwn Own) s.kept.jobs job h.jobs found)
 
-  pub gives_own : GivesOwn Own
-  gives_own s item h found = subst OnItem found (by_items s.live.items s.live.receipts h.items h.receipts)
-    where
-      OnItem : Option PeerOut → Type 0
-      OnItem None = Unit {0}
-      OnItem (Some it) = GivenIsOwn Own it
+  first_own : (items receipts : List PeerOut) → AllByRecursion (GivenIsOwn Own) items → AllByRecursion (GivenIsOwn Own) receipts → MatchOption (first_item items receipts) (Unit {0}) (GivenIsOwn Own)
+  first_own [] [] i r = tt
+  first_own [] (receipt ∷ receipts) i r = r.0
+  first_own (it ∷ items) receipts i r = i.0
 
-      by_items : (items receipts : List PeerOut) → AllByRecursion (GivenIsOwn Own) items → AllByRecursion (GivenIsOwn Own) receipts → OnItem (first_item items receipts)
-      by_items [] [] i r = tt
-      by_items [] (receipt ∷ receipts) i r = r.0
-      by_items (it ∷ items) receipts i r = i.0
+  pub gives_own : GivesOwn Own
+  gives_own s item h found = subst (λ (it : Option PeerOut). MatchOption it (Unit {0}) (GivenIsOwn Own)) found (first_own s.live.items s.live.receipts h.items h.receipts)
 
 module _ (Own Other : Ownership) where
   more_state : Grows Own Other → (part : Words) (state : JobState) → StateIsOwn Own part state → StateIsOwn Other part state
