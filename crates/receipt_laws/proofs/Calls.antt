@@ -1,5 +1,6 @@
 -- Each call of a proxy with its records keeps all its receipts own, and what it lends and gives is own.
 use Rattle.std.proofs.Common.{◌≡◌, ℕ, List, [], ◌∷◌, ◌++◌, Bool, true, false, cond, Option, Some, None, Result, Ok, Err, refl, sym, ap, subst, ◌∙◌, MatchOption}
+use Rattle.std.proofs.lemmas.Bool.{cond_both}
 use Rattle.std.specs.List.{AllByRecursion}
 use Rattle.pool_words.specs.Views.{EyeState, ReceiptState}
 use Rattle.half_model.specs.declared.items.PeerOut.{PeerOut}
@@ -71,20 +72,13 @@ by_lending P result old new h d none = by_fault old.fault refl d
 
 -- ---- what is found
 
-abbrev OnJob : (Job → Type 0) → Option Job → Type 0
-OnJob P None = Unit {0}
-OnJob P (Some job) = P job
-
-found_job : (P : Job → Type 0) (jobs : List Job) → AllByRecursion P jobs → OnJob P (first_waiting jobs)
+found_job : (P : Job → Type 0) (jobs : List Job) → AllByRecursion P jobs → MatchOption (first_waiting jobs) (Unit {0}) P
 found_job P [] h = tt
-found_job P (job ∷ jobs) h = by_wait (waits job.state)
-  where
-    by_wait : (b : Bool) → OnJob P (cond b (Some job) (first_waiting jobs))
-    by_wait true = h.0
-    by_wait false = found_job P jobs h.1
+found_job P (job ∷ jobs) h =
+    cond_both (waits job.state) (Some job) (first_waiting jobs) (λ (found : Option Job). MatchOption found (Unit {0}) P) (λ e. h.0) (λ e. found_job P jobs h.1)
 
 pub first_has : (P : Job → Type 0) (jobs : List Job) (job : Job) → AllByRecursion P jobs → first_waiting jobs ≡ Some job → P job
-first_has P jobs job h e = subst (OnJob P) e (found_job P jobs h)
+first_has P jobs job h e = subst (λ (found : Option Job). MatchOption found (Unit {0}) P) e (found_job P jobs h)
 
 -- ---- more of a list
 
