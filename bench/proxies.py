@@ -1,7 +1,8 @@
 #!/usr/bin/env python3
 """Measures two proxies back to back over memory, with the small proved program proxy_trials: messages and whole images that go
 from one peer to the other, and frames that are sent again on connection after connection, each beside plain copies of as many
-bytes by part_speed. It is no part of the gate."""
+bytes by part_speed; and the same messages through two proxies that keep their records, with pair_trials. It is no part of the
+gate."""
 import functools
 
 import figures
@@ -15,12 +16,14 @@ def copies(folder, size, times):
 
 
 def main():
-    for crate in ("part_speed", "proxy_trials"):
+    for crate in ("part_speed", "proxy_trials", "pair_trials"):
         figures.build(crate)
     with figures.folder() as folder:
         count, times = 1000, 1000
         carried, plain = seconds(folder, "messages", count, times), copies(folder, 24 * count, times)
         print(f"      24 bytes: {count * times / carried / 1e6:6.2f} million messages per second through both proxies, {carried / plain:.0f} times a plain copy's time")
+        kept = figures.job_seconds("pair_trials", folder, "messages", count, times)
+        print(f"      24 bytes: {count * times / kept / 1e6:6.2f} million messages per second through both with their records, {kept / carried:.1f} times the proxies' time")
         size, times = 640 * 480 * 4, 1000
         carried, plain = seconds(folder, "pictures", 1, times), copies(folder, size, times)
         print(f"{size:8} bytes: {size * times / carried / 1e6:6.0f} MB of images per second through both proxies, {carried / plain:.1f} times a plain copy's time")

@@ -1,0 +1,148 @@
+//! What a line of a row says.
+
+use wp_outside::Side;
+
+/// One line.
+#[derive(Clone, Copy)]
+pub enum Step<'a> {
+    /// One of the proxies does something, or shows itself.
+    Of(Side, Act<'a>),
+    /// A connection comes up on both sides, and goes down.
+    Connect(u32),
+    Break,
+    /// At most so many bytes are carried.
+    Up(u32),
+    Down(u32),
+    /// All bytes are carried, both ways.
+    Settle,
+    /// All words of the application's file get a value.
+    Fill(u32),
+    /// Both records are compared.
+    Audit,
+    /// A small session is cut behind each of its bytes.
+    Cuts,
+    /// Pieces of so many messages are carried so many times.
+    Messages(u32, u32),
+}
+
+/// What one proxy does, or shows.
+#[derive(Clone, Copy)]
+pub enum Act<'a> {
+    /// Its peer puts the same messages on its wire so many times, the handle of a file, that of a
+    /// pipe, whose number is below 0, a note.
+    Say(u32, &'a str),
+    Hand(u32),
+    Pipe(u32),
+    Note,
+    /// Its copies are made.
+    Copies,
+    /// It is asked to close.
+    Close(u32),
+    /// A connection comes up on its side alone, and goes down.
+    Connect(u32),
+    Break,
+    /// A piece comes to it.
+    Read(&'a str),
+    /// It writes at most so many bytes, which are lost.
+    Lose(u32),
+    /// Its record grows until it weighs so much.
+    Weigh(u32),
+    /// What it is to write next, what its peer is given, its counts, its connections, how it
+    /// ends, its whole record.
+    Front,
+    Gives,
+    Show,
+    Lines,
+    Ends,
+    Record,
+}
+
+impl<'a> Step<'a> {
+    /// What a line says; None where it says nothing.
+    pub fn read(line: &'a str) -> Option<Step<'a>> {
+        let (name, rest) = first_word(line);
+        match (name, number(rest)) {
+            ("near", _) => of_side(Side::Near, rest),
+            ("far", _) => of_side(Side::Far, rest),
+            ("connect", Some(connection)) => Some(Step::Connect(connection)),
+            ("break", _) => Some(Step::Break),
+            ("up", Some(most)) => Some(Step::Up(most)),
+            ("down", Some(most)) => Some(Step::Down(most)),
+            ("settle", _) => Some(Step::Settle),
+            ("fill", Some(value)) => Some(Step::Fill(value)),
+            ("audit", _) => Some(Step::Audit),
+            ("cuts", _) => Some(Step::Cuts),
+            ("messages", _) => messages(rest),
+            _ => None,
+        }
+    }
+}
+
+fn of_side(side: Side, rest: &str) -> Option<Step<'_>> {
+    match Act::read(rest) {
+        Some(act) => Some(Step::Of(side, act)),
+        None => None,
+    }
+}
+
+fn messages(rest: &str) -> Option<Step<'_>> {
+    let (count, times) = first_word(rest);
+    match (number(count), number(times)) {
+        (Some(count), Some(times)) => Some(Step::Messages(count, times)),
+        _ => None,
+    }
+}
+
+impl<'a> Act<'a> {
+    fn read(line: &'a str) -> Option<Act<'a>> {
+        let (name, rest) = first_word(line);
+        match (name, number(rest)) {
+            ("say", _) => Some(Act::Say(1, rest)),
+            ("repeat", _) => repeat(rest),
+            ("hand", Some(number)) => Some(Act::Hand(number)),
+            ("pipe", Some(number)) => Some(Act::Pipe(number)),
+            ("note", _) => Some(Act::Note),
+            ("copies", _) => Some(Act::Copies),
+            ("close", Some(reason)) => Some(Act::Close(reason)),
+            ("connect", Some(connection)) => Some(Act::Connect(connection)),
+            ("break", _) => Some(Act::Break),
+            ("read", _) => Some(Act::Read(rest)),
+            ("lose", Some(most)) => Some(Act::Lose(most)),
+            ("weigh", Some(weight)) => Some(Act::Weigh(weight)),
+            _ => Act::look(name),
+        }
+    }
+
+    fn look(name: &str) -> Option<Act<'a>> {
+        match name {
+            "front" => Some(Act::Front),
+            "gives" => Some(Act::Gives),
+            "show" => Some(Act::Show),
+            "lines" => Some(Act::Lines),
+            "ends" => Some(Act::Ends),
+            "record" => Some(Act::Record),
+            _ => None,
+        }
+    }
+}
+
+fn repeat(rest: &str) -> Option<Act<'_>> {
+    let (times, words) = first_word(rest);
+    match number(times) {
+        Some(times) => Some(Act::Say(times, words)),
+        None => None,
+    }
+}
+
+// The first word of a line, and what is behind it.
+fn first_word(line: &str) -> (&str, &str) {
+    match line.split_once(' ') {
+        Some((name, rest)) => (name, rest),
+        None => (line, ""),
+    }
+}
+
+// The number that a word names.
+fn number(word: &str) -> Option<u32> {
+    word.parse().ok()
+}
