@@ -1,7 +1,7 @@
 -- The messages that a peer received, as text. Each is printed with the interface that its object
 -- has by the rules of the Wayland protocol at its place in the order in which both peers' messages
 -- passed; a handle is printed as its rid. The order and the rids are this project's own.
-use Rattle.std.specs.Prelude.{Bool, true, false, if◌then◌else◌, pos, ℤ, ℕ, List, [], ◌∷◌, ◌++◌, drop}
+use Rattle.std.specs.Prelude.{if◌then◌else◌, pos, ℤ, ℕ, List, [], ◌∷◌, ◌++◌, drop}
 use Rattle.std.specs.Prelude.{Option, Some, None, Result, Ok, Err}
 use Rattle.wp_outside.specs.declared.kinds.HandleKind.{HandleKind}
 use Rattle.wp_outside.specs.declared.kinds.Side.{Side}
@@ -9,35 +9,13 @@ use Rattle.wl_wire.specs.declared.faults.ObjectFault.{ObjectFault}
 use Rattle.wl_wire.specs.Wire.{opcode_of}
 use Rattle.wl_tables.specs.declared.interface.Interface.{Interface}
 use Rattle.wl_tables.specs.declared.way.Way.{Way}
-use Rattle.wl_tables.specs.declared.way.Way.TheVariants.{Request, Event}
 use Rattle.wl_tables.specs.Messages.{handle_kind}
-use Rattle.wl_tables.specs.Ways.{is_event, own_way}
+use Rattle.wl_tables.specs.Ways.{is_event}
 use Rattle.wl_objects.specs.Entries.{Tracked}
 use Rattle.wl_objects.specs.Tracking.{Admission, step}
 use Rattle.wl_text.specs.Text.{text_of}
+use Rattle.pair_laws.specs.Passing.{is_own_way}
 use Rattle.pair_report.specs.Lines.{got_line}
-
--- ---- the order
-
-abbrev pub is_way : Way → Way → Bool
-is_way Request Request = true
-is_way Request Event = false
-is_way Event Request = false
-is_way Event Event = true
-
--- the next message of one list, if there is one, before others
-abbrev pub first_with : Way → List (List ℕ) → List (Way × List ℕ) → List (Way × List ℕ)
-first_with way [] others = others
-first_with way (message ∷ messages) others = (way, message) ∷ others
-
--- the messages that a side took from its own peer and those that it received, in the order of
--- their ways
-abbrev pub in_order : Way → List Way → (taken received : List (List ℕ)) → List (Way × List ℕ)
-in_order own [] taken received = []
-in_order own (way ∷ ways) taken received =
-    if is_way own way
-    then first_with way taken (in_order own ways (drop 1 taken) received)
-    else first_with way received (in_order own ways taken (drop 1 received))
 
 -- ---- one message
 
@@ -91,7 +69,7 @@ text_lines side [] tracked rids = []
 text_lines side ((way, message) ∷ others) tracked rids =
     let told = interface_told (step way tracked message) in
     let behind = objects_behind (step way tracked message) tracked in
-    if is_way (own_way side) way then text_lines side others behind rids
+    if is_own_way side way then text_lines side others behind rids
     else line_if told side way message rids
     ++ text_lines side others behind (rids_if told way message rids)
 

@@ -6,7 +6,6 @@ use Rattle.std.specs.List.{flat_map}
 use Rattle.wp_outside.specs.declared.kinds.Direction.TheVariants.{Up, Down}
 use Rattle.wp_outside.specs.declared.kinds.Side.{Side}
 use Rattle.wp_outside.specs.declared.kinds.Side.TheVariants.{Near, Far}
-use Rattle.wl_tables.specs.Ways.{own_way}
 use Rattle.wl_objects.specs.Entries.{first_objects}
 use Rattle.pair_model.specs.Lines.{Line, written_on, read_on}
 use Rattle.mirror_pools.specs.Mirrors.{MirrorsState}
@@ -14,6 +13,7 @@ use Rattle.pipe_relay.specs.Pipes.{Rids, has_rid}
 use Rattle.half_model.specs.Meaning.{Flow}
 use Rattle.half_model.specs.PeerState.{PeerState, flow_at}
 use Rattle.side_model.specs.Books.{Book, TrailRecord}
+use Rattle.pair_laws.specs.Passing.{passing}
 use Rattle.proxy_trail.specs.declared.pair.PairRecord.{PairRecord}
 use Rattle.pair_report.specs.declared.options.Got.{Got}
 use Rattle.pair_report.specs.declared.options.Got.TheVariants as got
@@ -22,7 +22,7 @@ use Rattle.pair_report.specs.Heard.{accepted_of}
 use Rattle.pair_report.specs.Meant.{Meant, Flows, meaning, on_flow, shut_from}
 use Rattle.pair_report.specs.Lines.{counts_lines, side_line, lane_line, mirror_line, pipe_line}
 use Rattle.pair_report.specs.Lines.{hex_line}
-use Rattle.pair_report.specs.Passing.{in_order, text_lines}
+use Rattle.pair_report.specs.Passing.{text_lines}
 
 -- ---- what is reported
 
@@ -138,8 +138,7 @@ long_if false pair = []
 abbrev pub got_of : Got → Side → Book → List (List ℕ) → List ℤ → List ℕ
 got_of got.Hexadecimal side book messages rids = flat_map (hex_line side) messages
 got_of got.Text side book messages rids =
-    text_lines side (in_order (own_way side) book.order book.trail.taken messages) first_objects
-    rids
+    text_lines side (passing side book.order book.trail.taken messages) first_objects rids
 got_of got.LeftOut side book messages rids = []
 
 abbrev pub got_at : Got → Side → SideTold → List ℕ

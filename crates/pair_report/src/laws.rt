@@ -2,7 +2,7 @@
 
 ghost use Rattle.pair_report.specs.Laws.{AcceptedIsTold, MirrorsAreMeant, FlowsAreMeant};
 
-use mirror_pools::mirrors_are_meaning;
+use mirror_pools::laws::mirrors_are_meaning;
 
 /// Of lawful records, those of a side that has failed too, the frames that a report is told by are
 /// those that their story accepts.

@@ -1,15 +1,13 @@
 //! The messages that a peer received, as text, by the order in which messages passed.
 
 ghost use Rattle.std.specs.Prelude.{◌≡◌, ◌++◌, [], ◌∷◌, Some, drop, IfOk, OnOk};
-ghost use Rattle.wl_wire.specs.Wire.{opcode_of};
-ghost use Rattle.wl_tables.specs.Messages.{handle_kind};
-ghost use Rattle.wl_tables.specs.Ways.{is_event, own_way};
 ghost use Rattle.wl_objects.specs.Entries.{first_objects};
 ghost use Rattle.wl_objects.specs.Tracking.{step};
 ghost use Rattle.wl_text.specs.Text.{CanPrint, text_of};
 ghost use Rattle.pair_report.specs.Lines.{got_line};
-ghost use Rattle.pair_report.specs.Passing.{is_way, in_order, first_rid, handles_in, rids_behind};
-ghost use Rattle.pair_report.specs.Passing.{interface_told, objects_behind, text_line, line_if, rids_if};
+ghost use Rattle.pair_laws.specs.Passing.{is_own_way, passing};
+ghost use Rattle.pair_report.specs.Passing.{first_rid, handles_in, rids_behind};
+ghost use Rattle.pair_report.specs.Passing.{interface_told, objects_behind, line_if, rids_if};
 ghost use Rattle.pair_report.specs.Passing.{text_lines, objects_first, line_first, rids_first};
 
 use crate::lines::got_prefix;
@@ -35,15 +33,14 @@ pub(crate) fn put_text_lines(
     rids: &[i32],
 ) -> Result<(), AllocError>
     ensures { OnOk result (out.new ≡ out.old ++ text_lines side
-        (in_order (own_way side) order.now taken.now received.now) first_objects rids.now) }
+        (passing side order.now taken.now received.now) first_objects rids.now) }
 {
-    let own = Way::of_peer(side);
     let mut objects = Objects::new(alloc)?;
     let mut taken_left = taken;
     let mut received_left = received;
     let mut rids_left = rids;
     for way in order {
-        if is_way(own, *way) {
+        if is_own_way(side, *way) {
             taken_left = track_first(&mut objects, *way, taken_left)?;
         } else {
             let (behind, rids_behind) =
@@ -55,15 +52,15 @@ pub(crate) fn put_text_lines(
     Ok(())
 }
 
-// Whether both are the same way.
-fn is_way(own: Way, way: Way) -> bool
-    ensures { result ≡ is_way own way }
+// Whether messages of this way are those of the side's own peer.
+fn is_own_way(side: Side, way: Way) -> bool
+    ensures { result ≡ is_own_way side way }
 {
-    match (own, way) {
-        (Way::Request, Way::Request) => true,
-        (Way::Request, Way::Event) => false,
-        (Way::Event, Way::Request) => false,
-        (Way::Event, Way::Event) => true,
+    match (side, way) {
+        (Side::Near, Way::Request) => true,
+        (Side::Near, Way::Event) => false,
+        (Side::Far, Way::Request) => false,
+        (Side::Far, Way::Event) => true,
     }
 }
 
