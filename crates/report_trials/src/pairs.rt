@@ -9,7 +9,12 @@ use wp_outside::Side;
 const TOKEN: [u8; 16] = *b"of this session.";
 
 /// A pair of proxies to which nothing has happened.
-pub fn new_pair(alloc: Global) -> Result<PairRecord, AllocError> {
+pub fn new_pair(alloc: Global) -> Result<Box<PairRecord>, AllocError> {
+    let pair = pair_by_value(alloc)?;
+    Ok(Box::new(alloc, pair)?)
+}
+
+fn pair_by_value(alloc: Global) -> Result<PairRecord, AllocError> {
     let near = Trail::new(alloc, Side::Near, TOKEN)?;
     pair_with(alloc, near)
 }
