@@ -1,18 +1,16 @@
 -- Each event but that which gives an item leaves the copies whose receipts were given.
 --
 -- The group of the last message records one copy and one receipt for each job that is back. No other event records a copy, and none but the one that gives takes a receipt away.
-use Rattle.std.proofs.Common.{◌≡◌, ℕ, ◌≤◌, List, [], ◌∷◌, ◌++◌, map, filter_map, length, Option, Some, None, Result, Ok, Err, refl, sym, ap, subst, ◌∙◌, MatchOption, arith, length-append, inl, inr}
+use Rattle.std.proofs.Common.{◌≡◌, suc, ◌≤◌, List, [], ◌∷◌, ◌++◌, map, length, Option, Some, None, Result, Ok, Err, refl, sym, ap, subst, ◌∙◌, MatchOption, arith, length-append, inl, inr}
 use Rattle.std.proofs.lemmas.Bool.{cond_both}
 use Rattle.std.proofs.lemmas.List.{length-map}
 use Rattle.wp_outside.specs.declared.pipe_items.PipeItem.{PipeItem}
 use Rattle.wp_outside.specs.declared.pipe_items.PipeItem.TheVariants as pieces
-use Rattle.transfer_frames.specs.declared.frame.Frame.{Frame}
-use Rattle.half_model.specs.declared.items.FileReceipt.{FileReceipt}
 use Rattle.half_model.specs.declared.items.PeerIn.TheVariants as inputs
 use Rattle.half_model.specs.declared.items.PeerOut.{PeerOut}
 use Rattle.half_model.specs.declared.notes.CopyRecord.{CopyRecord}
 use Rattle.half_model.specs.Group.{Owed}
-use Rattle.half_model.specs.Jobs.{Job, JobState, Waits, IsOut, IsBack, all_back, copied, copies_of, receipt_in, receipts_of}
+use Rattle.half_model.specs.Jobs.{Job, JobState, Waits, IsOut, IsBack, all_back, copies_of, receipts_of}
 use Rattle.half_model.specs.PipeTurn as pipes
 use Rattle.half_model.specs.PipeTurn.{PipeTurn, pipe_turn}
 use Rattle.half_model.specs.Turn as turns
@@ -26,7 +24,8 @@ use Rattle.side_model.specs.RowLaws.{AtMostChose}
 use Rattle.side_model.specs.State.{Now, Closing, Open, Asked, Made}
 use Rattle.side_model.specs.Steps.{step, fed_pipe, took, grouped, ended, receipt_item}
 use Rattle.side_model.specs.Trails.{TrailState, RunsOn, Keeps, RunsTrail, TrailAfter, RunsLends, LendsAfter}
-use Rattle.side_model.specs.Shows.{front_of}
+use Rattle.side_model.specs.Shows.{front_of, front_here, unless_fault}
+use Rattle.side_model.specs.Sound.{Admits}
 use Rattle.side_model.proofs.Calms.{went_then_chooses}
 use Rattle.side_model.proofs.Dues.{DueIn, InHear, InGroup, InTreat, InEnd, InChoose, due_in, frame_due, group_is_due, turn_due, end_is_due, choice_due}
 use Rattle.receipt_laws.proofs.Calls.{not_failed, good_row}
@@ -142,10 +141,10 @@ calls_leave_given event result old new l k calls none = by_fault old.fault refl 
         let r : Row (step event old.now) d.events d.last Rest = good_row event d.events old.now d.last d.calls in
         let first : EndsOn start (grown event old.now (closed old.book)).trail (step event old.now) = events_end start event old.now (closed old.book) l (ends_in old k was) in
         let last : EndsOn start (grow_all (event ∷ d.events) old.now (closed old.book)).trail d.last =
-            parts_end start (step event old.now) d.last d.events (grown event old.now (closed old.book)) first r.0 in
+        parts_end start (step event old.now) d.last d.events (grown event old.now (closed old.book)) first r.0 in
         let there : EndsOn start new.book.trail d.last = subst (λ (b : Book). EndsOn start b.trail d.last) (sym d.whole.book) last in
         let here : EndsOn start new.book.trail new.now =
-            subst (λ (them : List PeerOut). Ends start new.book.trail.copies them) (sym (ap (λ (u : Now). u.live.receipts) d.now)) there in
+        subst (λ (them : List PeerOut). Ends start new.book.trail.copies them) (sym (ap (λ (u : Now). u.live.receipts) d.now)) there in
         ends_are start new.book.trail.copies new.now.live.receipts here
     by_result (Err fault) was f = not_failed fault new.fault f.fault_is none
 
@@ -172,3 +171,26 @@ lends_leave_given result old new d = by_fault old.fault d
     by_fault : (fault : Option ProxyFault) → LendsAfter fault result old new → given_copies new ≡ given_copies old
     by_fault None l = by_result result l
     by_fault (Some fault) l = ap given_copies l.same
+
+fault_front : (s : Now) → s.fault ≡ None → front_of s ≡ front_here s.live.here
+fault_front s e = ap (λ (fault : Option ProxyFault). unless_fault fault (front_here s.live.here) []) e
+
+-- behind bytes that went a front is chosen at most, which records nothing
+chosen_same : (s t : Now) (book : Book) (events : List Event) → Part s events t → AtMostChose events → (grow_all events s book).trail.copies ≡ book.trail.copies
+unfolding step
+chosen_same s t book events p (inl e) = ap (λ (es : List Event). (grow_all es s book).trail.copies) e
+chosen_same s t book events p (inr e) = ap (λ (es : List Event). (grow_all es s book).trail.copies) e
+
+pub sends_leave_given : SendsLeaveGiven
+sends_leave_given n old new none k l d =
+    let r : RunsOn old = k.runs none in
+    let admits : Admits (Went n) old.now = omega (arith, l, r.lent, ap length (fault_front old.now r.fault)) in
+    let most : AtMostChose d.events = went_then_chooses old.now new.now n d.events r.sound admits r.rests d.row in
+    let start : List CopyRecord = given_copies old in
+    let sent : Now = step (Went n) old.now in
+    let book : Book = grown (Went n) old.now (closed old.book) in
+    let first : EndsOn start book.trail sent = events_end start (Went n) old.now (closed old.book) tt (ends_in old k none) in
+    let last : EndsOn start (grow_all d.events sent book).trail new.now = parts_end start sent new.now d.events book first d.row.0 in
+    let same : (grow_all d.events sent book).trail.copies ≡ new.book.trail.copies =
+    chosen_same sent new.now book d.events d.row.0 most ∙ sym (ap (λ (b : Book). b.trail.copies) d.book) in
+    ends_are start new.book.trail.copies new.now.live.receipts (subst (λ (copies : List CopyRecord). Ends start copies new.now.live.receipts) same last)

@@ -1,6 +1,6 @@
 -- Which copies of a proxy's record had their receipts given to its peer, and what it is that these
 -- are settled there; copies and receipts are this project's own.
-use Rattle.std.specs.Prelude.{◌≡◌, ℕ, ◌-◌, ℤ, List, ◌∷◌, length, take, All, Contains}
+use Rattle.std.specs.Prelude.{ℕ, ◌-◌, ℤ, List, length, take, All, Contains}
 use Rattle.std.specs.List.{AllByRecursion}
 use Rattle.pool_words.specs.declared.views.Load.{Load}
 use Rattle.pool_words.specs.History.{HasStood}
@@ -15,7 +15,6 @@ use Rattle.side_model.specs.Trails.{TrailState}
 abbrev pub given_copies : TrailState → List CopyRecord
 given_copies t =
     take (length t.book.trail.copies - length t.now.live.receipts) t.book.trail.copies
-
 
 -- nothing is given to the peer by this event
 abbrev pub GivesNothing : Event → Type 0
