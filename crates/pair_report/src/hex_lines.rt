@@ -2,7 +2,6 @@
 
 ghost use Rattle.std.specs.Prelude.{◌≡◌, ◌++◌, OnOk};
 ghost use Rattle.std.specs.List.{flat_map};
-ghost use Rattle.side_model.specs.Books.{Book};
 ghost use Rattle.pair_report.specs.Lines.{hex_line};
 
 use crate::lines::put_hex_line;
