@@ -1,0 +1,9 @@
+pub mod Keeping
+pub mod Moving
+pub mod Telling
+pub mod Connecting
+pub mod Linking
+pub mod Sending
+pub mod Coming
+pub mod Settling
+pub mod Playing
