@@ -41,9 +41,11 @@ module _ (Own : Ownership) where
   with_own tracked message kind now handles [] h = tt
   with_own tracked message kind now handles (rid ∷ rids) h =
       let handle : PeerOut = items.Handle (record { number = rid; kind = kind }) in
-      let given : List PeerOut = now.given ++ handle ∷ items.Bytes message ∷ [] in
-      cond_both (has_kind kind (kind_of_rid handles rid)) (Ok (record { tracked = tracked; waiting = rids; held = with_held kind rid now.held; given = given })) (Err RidCount)
-      OnPassed (λ e. all_append (GivenIsOwn Own) now.given (handle ∷ items.Bytes message ∷ []) h (tt, (tt, tt))) (λ e. tt)
+      let behind : List PeerOut = handle ∷ items.Bytes message ∷ [] in
+      let passed : Passage = record { tracked = tracked; waiting = rids; held = with_held kind rid now.held; given = now.given ++ behind } in
+      let good : Result Passage FrameCause = Ok passed in
+      let bad : Result Passage FrameCause = Err RidCount in
+      cond_both (has_kind kind (kind_of_rid handles rid)) good bad OnPassed (λ e. all_append (GivenIsOwn Own) now.given behind h (tt, (tt, tt))) (λ e. tt)
 
   kind_own : (kind : Option HandleKind) (tracked : Tracked) (message : List ℕ) (now : Passage) (handles : Table) → AreOwn now.given
       → OnPassed (passed_by_kind kind tracked message now handles)

@@ -109,7 +109,7 @@ copy_is_back job copy done l c = record {
   pool = ap (λ receipt. receipt.pool) c.loads;
 }
 
-is_back_of : (job : Job) (eye : EyeState) (done : Done) → IsBackOf job eye done → (job.low ≡ eye.low) × (job.pool ≡ eye.number) → is_done done (sent_out job) ≡ true
+pub is_back_of : (job : Job) (eye : EyeState) (done : Done) → IsBackOf job eye done → (job.low ≡ eye.low) × (job.pool ≡ eye.number) → is_done done (sent_out job) ≡ true
 is_back_of job eye done b f =
     and_from (eqb job.id done.id) _ (eq-eqb job.id done.id (sym b.id))
     (and_from (eqb job.part.first done.first) _ (eq-eqb job.part.first done.first (sym b.first))
