@@ -1,8 +1,7 @@
 -- Each call of a proxy with its records keeps all its receipts own, and what it lends and gives is own.
-use Rattle.std.proofs.Common.{◌≡◌, ℕ, List, [], ◌∷◌, ◌++◌, Bool, true, false, cond, Option, Some, None, Result, Ok, Err, refl, sym, ap, subst, ◌∙◌, MatchOption}
+use Rattle.std.proofs.Common.{◌≡◌, ℕ, List, [], ◌∷◌, Option, Some, None, Result, Ok, Err, refl, sym, ap, subst, ◌∙◌, MatchOption}
 use Rattle.std.proofs.lemmas.Bool.{cond_both}
 use Rattle.std.specs.List.{AllByRecursion}
-use Rattle.pool_words.specs.Views.{EyeState, ReceiptState}
 use Rattle.half_model.specs.declared.items.PeerOut.{PeerOut}
 use Rattle.half_model.specs.declared.items.PeerOut.TheVariants as outputs
 use Rattle.shm_pools.specs.declared.notes.Note.{Note}
@@ -14,8 +13,8 @@ use Rattle.side_model.specs.Events.{Event, Went, Rest}
 use Rattle.side_model.specs.Shows.{first_item}
 use Rattle.side_model.specs.State.{Now}
 use Rattle.side_model.specs.Steps.{step}
-use Rattle.side_model.specs.Trails.{TrailState, with_notes, Done, FailsNow, FailsAgain, RunsTrail, TrailAfter, TrailCalls, Sends, RunsLends, LendsAfter}
-use Rattle.receipt_laws.specs.Owning.{Ownership, EyeIsOwn, NoteIsOwn, StateIsOwn, JobIsOwn, GivenIsOwn, AllOwn, BringsOwn, TrailIsOwn}
+use Rattle.side_model.specs.Trails.{TrailState, with_notes, RunsTrail, TrailAfter, TrailCalls, Sends, RunsLends, LendsAfter}
+use Rattle.receipt_laws.specs.Owning.{Ownership, NoteIsOwn, StateIsOwn, JobIsOwn, GivenIsOwn, AllOwn}
 use Rattle.receipt_laws.specs.OwnLaws.{OwnAtFirst, CallsKeepOwn, StepsKeepOwn, SendsKeepOwn, LendsKeepOwn, LentIsOwn, GivesOwn, Grows, MoreIsOwn}
 use Rattle.receipt_laws.proofs.Events.{events_keep, parts_keep}
 
