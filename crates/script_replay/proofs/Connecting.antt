@@ -1,6 +1,8 @@
 -- A connection that is made, ends or has a byte replaced, as a move of the run.
 use Rattle.std.proofs.Common.{◌≡◌, ◌≢◌, ℕ, suc, ◌+◌, ◌<◌, ◌≤◌, max, nat_lt, Bool, true, false, is_none, ◌&&◌, ◌||◌, List, [], ◌∷◌, ◌++◌, length, slice_set, Option, Some, None, option_map, refl, sym, ap, subst, ◌∙◌, arith, inl, inr, if◌then◌else◌}
-use Rattle.std.proofs.lemmas.Bool.{lt-ltb, le-ltb}
+use Rattle.std.proofs.lemmas.Bool.{lt-ltb, le-ltb, ltb-true, ltb-false}
+use Rattle.std.specs.Prelude.{IsTrue, ◌↔◌}
+use Rattle.std.specs.Bool.{MatchBool}
 use Rattle.wp_outside.specs.declared.kinds.Direction.{Direction}
 use Rattle.wp_outside.specs.declared.kinds.Direction.TheVariants.{Up, Down}
 use Rattle.wp_outside.specs.declared.kinds.Side.{Side}
@@ -81,7 +83,7 @@ connected_ready old near far before after r en ef un uf most b fresh = record {
   aside = record { near = up_at Near (old.last + 1) old.last old.up old.near near r.aside.near en un; far = up_at Far (old.last + 1) old.last old.up old.far far r.aside.far ef uf };
   few = most;
   some = λ e. omega arith;
-  open = λ e. ap (λ (it : outside.Line). it.is_up) b.here;
+  holds = λ e. ap (λ (it : outside.Line). it.is_up) b.here;
   fresh = λ n above. ap (λ (it : outside.Line). it.was_opened) (b.others n (λ e. omega (arith, above, e))) ∙ r.fresh n (omega (arith, above));
   tells = tells_same (rows_of (sided.state_of old.near) ++ new_line (old.last + 1) ∷ []) (rows_of (sided.state_of old.far) ++ new_line (old.last + 1) ∷ []) (rows_of (sided.state_of near)) (rows_of (sided.state_of far)) after (ap rows_of en) (ap rows_of ef)
       (opened_tells (rows_of (sided.state_of old.near)) (rows_of (sided.state_of old.far)) before after (old.last + 1) b fresh r.tells);
@@ -217,7 +219,7 @@ cut_moves law old near far before after r rn rf en ef pn pf dn df b =
       aside = record { near = down_at Near old.last old.up old.near near r.aside.near rn en pn dn; far = down_at Far old.last old.up old.far far r.aside.far rf ef pf df };
       few = r.few;
       some = λ e. absurd cc;
-      open = λ e. absurd cc;
+      holds = λ e. absurd cc;
       fresh = λ n above. ap (λ (it : outside.Line). it.was_opened) (b.others n (λ e. omega (arith, above, e))) ∙ r.fresh n above;
       tells = tells_same (rows_of s.near) (rows_of s.far) (rows_of t.near) (rows_of t.far) after (ap rows_of en) (ap rows_of ef) (cut_tells (rows_of s.near) (rows_of s.far) before after old.last b r.tells);
     } in
@@ -279,7 +281,7 @@ spoil_moves law dir offset byte old before after r l b =
         aside = r.aside;
         few = r.few;
         some = r.some;
-        open = λ e. ap (λ (it : outside.Line). it.is_up) b.here ∙ keeps_up dir offset byte (before old.last) ∙ r.open e;
+        holds = λ e. ap (λ (it : outside.Line). it.is_up) b.here ∙ keeps_up dir offset byte (before old.last) ∙ r.holds e;
         fresh = λ n above. ap (λ (it : outside.Line). it.was_opened) (b.others n (λ e. omega (arith, above, e))) ∙ r.fresh n above;
         tells = spoiled_tells dir offset byte (rows_of s.near) (rows_of s.far) before after old.last b r.tells;
       };
@@ -299,8 +301,20 @@ spoil_none law dir offset byte old before after r l same =
         aside = r.aside;
         few = r.few;
         some = r.some;
-        open = λ e. ap (λ (it : outside.Line). it.is_up) (same old.last) ∙ r.open e;
+        holds = λ e. ap (λ (it : outside.Line). it.is_up) (same old.last) ∙ r.holds e;
         fresh = λ n above. ap (λ (it : outside.Line). it.was_opened) (same n) ∙ r.fresh n above;
         tells = λ n. subst (λ (it : outside.Line). TellsLine n (rows_of s.near) (rows_of s.far) [] [] it) (sym (same n)) (r.tells n);
       };
     }
+
+not_less : (a b : ℕ) → (a < b → ⊥) → b ≤ a
+not_less a b n = go (nat_lt a b) refl
+  where
+    go : (it : Bool) → nat_lt a b ≡ it → b ≤ a
+    go true e = absurd (n (ltb-true a b e))
+    go false e = ltb-false a b e
+
+pub spoil_by : ReadyGoesOn → (dir : Direction) (offset byte : ℕ) (old : Run) (before after : ℕ → outside.Line) → IsReady old before → (b : Bool) → (IsTrue b ↔ (offset < length (lane_of dir (before old.last)).waiting)) → MatchBool b (Became before after old.last (spoiled_at dir offset byte)) (Same before after)
+    → Went (MovesAll (Spoil dir offset byte ∷ [])) old old before after None
+spoil_by law dir offset byte old before after r true answer change = spoil_moves law dir offset byte old before after r (answer.0 tt) change
+spoil_by law dir offset byte old before after r false answer change = spoil_none law dir offset byte old before after r (λ e. not_less offset (length (lane_of dir (before old.last)).waiting) (λ l. absurd (let never : false ≡ true = answer.1 l in cc))) change

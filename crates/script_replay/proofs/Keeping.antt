@@ -50,7 +50,7 @@ ready_with Near old new line r s e = record {
   aside = record { near = ready_at Near old.near new old.last old.up r.aside.near s e; far = r.aside.far };
   few = r.few;
   some = r.some;
-  open = r.open;
+  holds = r.holds;
   fresh = r.fresh;
   tells = tells_same (rows_of (sided.state_of old.near)) (rows_of (sided.state_of old.far)) (rows_of (sided.state_of new)) (rows_of (sided.state_of old.far)) line e refl r.tells;
 }
@@ -58,7 +58,7 @@ ready_with Far old new line r s e = record {
   aside = record { near = r.aside.near; far = ready_at Far old.far new old.last old.up r.aside.far s e };
   few = r.few;
   some = r.some;
-  open = r.open;
+  holds = r.holds;
   fresh = r.fresh;
   tells = tells_same (rows_of (sided.state_of old.near)) (rows_of (sided.state_of old.far)) (rows_of (sided.state_of old.near)) (rows_of (sided.state_of new)) line refl e r.tells;
 }
@@ -129,8 +129,8 @@ side_moves law side old new move (Some fault) changes leaves e = λ line ready. 
 
 -- ---- why a call stops
 
-pub stopped : {X : Type 0} (side : Side) (fault : ProxyFault) (stop : Stop) (P : Option Fault → Type 0) → stop ≡ stop_by side fault → (fault ≢ faults.Memory → P (Some (record { side = side; fault = fault }))) → IfStops {X} (Err stop) P
-stopped {X} side (faults.Frame connection place cause) stop P e h = subst (λ (it : Stop). IfStops {X} (Err it) P) (sym e) (h (λ d. cc))
-stopped {X} side (faults.Peer index cause) stop P e h = subst (λ (it : Stop). IfStops {X} (Err it) P) (sym e) (h (λ d. cc))
-stopped {X} side (faults.Limit which) stop P e h = subst (λ (it : Stop). IfStops {X} (Err it) P) (sym e) (h (λ d. cc))
-stopped {X} side faults.Memory stop P e h = subst (λ (it : Stop). IfStops {X} (Err it) P) (sym e) tt
+pub stopped : {X : Type 0} (side : Side) (fault : ProxyFault) (stop : Stop) (P : Option Fault → Type 0) → stop ≡ stop_by side fault → (fault ≢ faults.Memory → P (Some (record { side = side; fault = fault }))) → IfStops {X = X} (Err stop) P
+stopped {X} side (faults.Frame connection place cause) stop P e h = subst (λ (it : Stop). IfStops {X = X} (Err it) P) (sym e) (h (λ d. cc))
+stopped {X} side (faults.Peer index cause) stop P e h = subst (λ (it : Stop). IfStops {X = X} (Err it) P) (sym e) (h (λ d. cc))
+stopped {X} side (faults.Limit which) stop P e h = subst (λ (it : Stop). IfStops {X = X} (Err it) P) (sym e) (h (λ d. cc))
+stopped {X} side faults.Memory stop P e h = subst (λ (it : Stop). IfStops {X = X} (Err it) P) (sym e) tt

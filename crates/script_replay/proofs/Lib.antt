@@ -1,9 +1,9 @@
 pub mod Keeping
-pub mod Moving
+pub mod Calling
 pub mod Telling
 pub mod Connecting
-pub mod Linking
-pub mod Sending
-pub mod Coming
+pub mod Crossing
+pub mod Leaving
+pub mod Arriving
 pub mod Settling
 pub mod Playing

@@ -66,10 +66,10 @@ goes_settles what result old new before after e bytes h =
     (λ stop g ready. let w = g ready in record { did = line_settles what (state_of old before) (state_of new after) stop e bytes w.did; stays = w.stays }) h
 
 -- a call of which only the answer is another one
-pub drop_answer : {X : Type 0} (answer : X) (P : Option Fault → Type 0) → IfStops (Ok answer) P → IfStops {Unit {0}} (Ok tt) P
+pub drop_answer : {X : Type 0} (answer : X) (P : Option Fault → Type 0) → IfStops (Ok answer) P → IfStops {X = Unit {0}} (Ok tt) P
 drop_answer answer P h = h
 
-pub other_answer : {X Y : Type 0} (stop : Stop) (P : Option Fault → Type 0) → IfStops {X} (Err stop) P → IfStops {Y} (Err stop) P
+pub other_answer : {X Y : Type 0} (stop : Stop) (P : Option Fault → Type 0) → IfStops {X = X} (Err stop) P → IfStops {X = Y} (Err stop) P
 other_answer (stops.Failed it) P h = h
 other_answer stops.Memory P h = tt
 

@@ -23,7 +23,7 @@ pub record RunsUp (it : SideRun) : Type 0 where
 -- and the store has this connection
 pub record MaySend (connection : ℕ) (it : SideRun) (line : ℕ → Line) : Type 0 where
   pub side : RunsUp it
-  pub open : (line connection).is_up ≡ true
+  pub holds : (line connection).is_up ≡ true
 
 -- what the calls of the link leave of the peer beside a side
 pub record LeavesPeer (old new : SideRun) : Type 0 where

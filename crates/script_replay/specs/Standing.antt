@@ -50,7 +50,7 @@ pub record IsReady (run : Run) (line : ℕ → outside.Line) : Type 0 where
   pub aside : IsReadyAside run
   pub few : run.last ≤ MOST_CONNECTIONS
   pub some : run.up ≡ true → 0 < run.last
-  pub open : run.up ≡ true → (line run.last).is_up ≡ true
+  pub holds : run.up ≡ true → (line run.last).is_up ≡ true
   pub fresh : (connection : ℕ) → run.last < connection → (line connection).was_opened ≡ false
   pub tells : Tells (rows_of (sided.state_of run.near)) (rows_of (sided.state_of run.far)) line
 

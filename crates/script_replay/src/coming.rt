@@ -1,8 +1,9 @@
 //! How bytes come out of the link into a side.
 
-ghost use Rattle.std.specs.Prelude.{◌≡◌, ◌<◌, length};
+ghost use Rattle.std.specs.Prelude.{◌≡◌, ◌<◌, length, take};
+ghost use Rattle.wp_outside.specs.Lines.{Became, pulled_from};
 ghost use Rattle.script_sides.specs.Answering.{Answers};
-ghost use Rattle.script_replay.specs.Coming.{Came, ReadsPiece};
+ghost use Rattle.script_replay.specs.Coming.{waiting_on, size_of, Came, ReadsPiece};
 ghost use Rattle.script_replay.specs.Sending.{RunsUp};
 
 use script_sides::ScriptSide;
@@ -29,8 +30,12 @@ pub(crate) fn pull_bytes<L: LinkStore>(
     let mut left = most;
     'pieces: while 0 < left {
         match pull_piece(side, dir, left, connection, line, room) {
-            Ok(0) => return Ok(()),
-            Ok(count) => left -= count,
+            Ok(count) => {
+                if count == 0 {
+                    return Ok(());
+                }
+                left -= count;
+            }
             Err(fault) => return Err(fault),
         }
     }
@@ -55,8 +60,7 @@ fn pull_piece<L: LinkStore>(
     requires ready { RunsUp side.old }
     ensures { ReadsPiece result most connection dir side.old side.new (L.line line.old) (L.line line.new) }
 {
-    let size = room.len().min(most);
-    let count = line.pull(connection, dir, &mut room[..size]);
+    let count = pull_front(dir, most, connection, line, room);
     if count == 0 {
         return Ok(0);
     }
@@ -64,4 +68,21 @@ fn pull_piece<L: LinkStore>(
         Ok(()) => Ok(count),
         Err(fault) => Err(fault),
     }
+}
+
+/// Pulls a piece of up to so many bytes into the front of the room, and answers how many it has.
+fn pull_front<L: LinkStore>(
+    dir: Direction,
+    most: usize,
+    connection: u32,
+    line: &mut L,
+    room: &mut [u8],
+) -> usize
+    requires sized { length room.old ≡ 65536 }
+    ensures size { result ≡ size_of most (waiting_on dir connection (L.line line.old)) }
+    ensures bytes { take result room.new ≡ take result (waiting_on dir connection (L.line line.old)) }
+    ensures change { Became (L.line line.old) (L.line line.new) connection (pulled_from dir result) }
+{
+    let size = room.len().min(most);
+    line.pull(connection, dir, &mut room[..size])
 }

@@ -9,6 +9,7 @@ use crate::coming::pull_bytes;
 use crate::failures::{Stop, stop_by};
 use crate::run::Run;
 use crate::sending::push_bytes;
+use script_sides::laws::ready_goes_on;
 use wp_outside::{Direction, LinkStore, Side};
 
 impl Run {
@@ -17,6 +18,7 @@ impl Run {
         requires { IsReady self.old (L.line line.old) }
         ensures { IfStops result (Goes (Connect ∷ []) self.old self.new (L.line line.old) (L.line line.new)) }
     {
+        ready_goes_on();
         if self.up {
             return Ok(());
         }
@@ -28,6 +30,7 @@ impl Run {
         requires { IsReady self.old (L.line line.old) }
         ensures { IfStops result (Goes (ConnectIfHeld ∷ []) self.old self.new (L.line line.old) (L.line line.new)) }
     {
+        ready_goes_on();
         if self.near.holds() || self.far.holds() {
             self.connect(line)
         } else {
@@ -41,6 +44,7 @@ impl Run {
         requires down { self.old.up ≡ false }
         ensures { IfStops result (Goes (Connect ∷ []) self.old self.new (L.line line.old) (L.line line.new)) }
     {
+        ready_goes_on();
         let next = self.last + 1;
         match self.near.link_up(next) {
             Ok(()) => match self.far.link_up(next) {
@@ -63,6 +67,7 @@ impl Run {
         requires { IsReady self.old (L.line line.old) }
         ensures { Goes (Break ∷ []) self.old self.new (L.line line.old) (L.line line.new) None }
     {
+        ready_goes_on();
         if self.up {
             self.near.link_down();
             self.far.link_down();
@@ -81,6 +86,7 @@ impl Run {
         requires { IsReady self.old (L.line line.old) }
         ensures { IfStops result (Goes (Push dir most ∷ []) self.old self.new (L.line line.old) (L.line line.new)) }
     {
+        ready_goes_on();
         if !self.up {
             return Ok(());
         }
@@ -109,6 +115,7 @@ impl Run {
         requires ready { IsReady self.old (L.line line.old) }
         ensures { IfStops result (Goes (Pull dir most ∷ []) self.old self.new (L.line line.old) (L.line line.new)) }
     {
+        ready_goes_on();
         if !self.up {
             return Ok(());
         }
@@ -135,6 +142,7 @@ impl Run {
         requires { IsReady self.old (L.line line.old) }
         ensures { Goes (Spoil dir offset byte ∷ []) self.old self.new (L.line line.old) (L.line line.new) None }
     {
+        ready_goes_on();
         if self.up {
             line.spoil(self.last, dir, offset, byte);
         }

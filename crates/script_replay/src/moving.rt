@@ -10,6 +10,7 @@ ghost use Rattle.script_replay.specs.Standing.{IsReadyAside};
 use crate::failures::{Stop, stop_by};
 use crate::run::Run;
 use script_lang::StepKind;
+use script_sides::laws::ready_goes_on;
 use wp_outside::Side;
 
 impl Run {
@@ -35,14 +36,15 @@ impl Run {
         ensures moves { IfStops result (GoesAside (Take side most ∷ []) self.old self.new) }
         ensures took { IfOk result (ChangedAside self.old self.new) }
     {
+        ready_goes_on();
         match side {
             Side::Near => match self.near.take(most) {
                 Ok(took) => Ok(took),
-                Err(fault) => Err(stop_by(side, fault)),
+                Err(fault) => Err(stop_by(Side::Near, fault)),
             },
             Side::Far => match self.far.take(most) {
                 Ok(took) => Ok(took),
-                Err(fault) => Err(stop_by(side, fault)),
+                Err(fault) => Err(stop_by(Side::Far, fault)),
             },
         }
     }
@@ -52,6 +54,7 @@ impl Run {
         requires { IsReadyAside self.old }
         ensures { IfStops result (GoesAside (Load words ∷ []) self.old self.new) }
     {
+        ready_goes_on();
         match self.near.load(words) {
             Ok(over) => match self.far.load(over) {
                 Ok(_) => Ok(()),
@@ -67,14 +70,15 @@ impl Run {
         ensures moves { IfStops result (GoesAside (LoadAll side ∷ []) self.old self.new) }
         ensures loaded { IfOk result (ChangedAside self.old self.new) }
     {
+        ready_goes_on();
         match side {
             Side::Near => match self.near.load_all() {
                 Ok(loaded) => Ok(loaded),
-                Err(fault) => Err(stop_by(side, fault)),
+                Err(fault) => Err(stop_by(Side::Near, fault)),
             },
             Side::Far => match self.far.load_all() {
                 Ok(loaded) => Ok(loaded),
-                Err(fault) => Err(stop_by(side, fault)),
+                Err(fault) => Err(stop_by(Side::Far, fault)),
             },
         }
     }
@@ -84,13 +88,16 @@ impl Run {
         requires { IsReadyAside self.old }
         ensures { IfStops result (GoesAside (Close side ∷ []) self.old self.new) }
     {
-        let answer = match side {
-            Side::Near => self.near.close(),
-            Side::Far => self.far.close(),
-        };
-        match answer {
-            Ok(()) => Ok(()),
-            Err(fault) => Err(stop_by(side, fault)),
+        ready_goes_on();
+        match side {
+            Side::Near => match self.near.close() {
+                Ok(()) => Ok(()),
+                Err(fault) => Err(stop_by(Side::Near, fault)),
+            },
+            Side::Far => match self.far.close() {
+                Ok(()) => Ok(()),
+                Err(fault) => Err(stop_by(Side::Far, fault)),
+            },
         }
     }
 }

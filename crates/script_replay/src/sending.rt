@@ -26,8 +26,12 @@ pub(crate) fn push_bytes<L: LinkStore>(
     let mut left = most;
     'pieces: while 0 < left {
         match push_piece(side, dir, left, connection, line) {
-            Ok(0) => return Ok(()),
-            Ok(count) => left -= count,
+            Ok(count) => {
+                if count == 0 {
+                    return Ok(());
+                }
+                left -= count;
+            }
             Err(fault) => return Err(fault),
         }
     }

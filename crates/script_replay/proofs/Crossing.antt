@@ -31,7 +31,7 @@ use Rattle.script_replay.specs.declared.run.Run.{Run}
 use Rattle.script_replay.proofs.Keeping.{goes_on, kept_aside, tells_same, tells_failed, one_move, one_fault}
 use Rattle.script_replay.proofs.Connecting.{state_is, line_down}
 use Rattle.script_replay.proofs.Telling.{pushed_up, pushed_down, pulled_up, pulled_down, none_refused}
-use Rattle.script_replay.proofs.Coming.{last_none}
+use Rattle.script_replay.proofs.Arriving.{last_none}
 
 -- ---- the last line
 
@@ -113,7 +113,7 @@ ready_line old new before after change r aside last up b keeps tells = record {
   aside = aside;
   few = omega (arith, r.few, last);
   some = λ e. omega (arith, r.some (sym up ∙ e), last);
-  open = λ e. subst (λ (n : ℕ). (after n).is_up ≡ true) (sym last) (ap (λ (it : outside.Line). it.is_up) b.here ∙ keeps (before old.last) ∙ r.open (sym up ∙ e));
+  holds = λ e. subst (λ (n : ℕ). (after n).is_up ≡ true) (sym last) (ap (λ (it : outside.Line). it.is_up) b.here ∙ keeps (before old.last) ∙ r.holds (sym up ∙ e));
   fresh = λ n above. ap (λ (it : outside.Line). it.was_opened) (b.others n (λ e. omega (arith, above, last, e))) ∙ r.fresh n (omega (arith, above, last));
   tells = tells;
 }

@@ -17,7 +17,7 @@ use Rattle.pair_runs.proofs.More.{reads_more, part_more}
 use Rattle.script_sides.specs.Sided.{SideRun, state_of}
 use Rattle.script_replay.specs.Coming.{waiting_on, size_of, ReadsSome, ReadsBadly, Came}
 use Rattle.script_replay.specs.Sending.{RunsUp, LeavesPeer}
-use Rattle.script_replay.proofs.Sending.{became_twice, leaves_twice}
+use Rattle.script_replay.proofs.Leaving.{became_twice, leaves_twice}
 
 -- ---- a lane
 
