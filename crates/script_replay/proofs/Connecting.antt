@@ -316,5 +316,5 @@ not_less a b n = go (nat_lt a b) refl
 
 pub spoil_by : ReadyGoesOn → (dir : Direction) (offset byte : ℕ) (old : Run) (before after : ℕ → outside.Line) → IsReady old before → (b : Bool) → (IsTrue b ↔ (offset < length (lane_of dir (before old.last)).waiting)) → MatchBool b (Became before after old.last (spoiled_at dir offset byte)) (Same before after)
     → Went (MovesAll (Spoil dir offset byte ∷ [])) old old before after None
-spoil_by law dir offset byte old before after r true answer change = spoil_moves law dir offset byte old before after r (answer.0 tt) change
+spoil_by law dir offset byte old before after r true answer change = spoil_moves law dir offset byte old before after r (answer.0 refl) change
 spoil_by law dir offset byte old before after r false answer change = spoil_none law dir offset byte old before after r (λ e. not_less offset (length (lane_of dir (before old.last)).waiting) (λ l. absurd (let never : false ≡ true = answer.1 l in cc))) change

@@ -50,7 +50,7 @@ line_settles what s t stop e bytes h = record {
   does = subst (λ (b : Bool). DoesBy b (record { what = what; puts = [] }) s t stop) (sym e) h;
 }
 
-pub goes_line : {X Y : Type 0} (what : StepKind) (moves : List Move) (result : Result X Stop) (old new : Run) (before after : ℕ → outside.Line) → settles what ≡ false → [] ≡ puts.put_by Near what ++ puts.put_by Far what → moves_of what [] ≡ moves
+pub goes_line : {X : Type 0} (what : StepKind) (moves : List Move) (result : Result X Stop) (old new : Run) (before after : ℕ → outside.Line) → settles what ≡ false → [] ≡ puts.put_by Near what ++ puts.put_by Far what → moves_of what [] ≡ moves
     → IfStops result (Goes moves old new before after) → IfStops result (GoesBy (DoesLine what) old new before after)
 goes_line what moves result old new before after e bytes is h =
     stops_same result (Goes moves old new before after) (GoesBy (DoesLine what) old new before after)
@@ -69,9 +69,9 @@ goes_settles what result old new before after e bytes h =
 pub drop_answer : {X : Type 0} (answer : X) (P : Option Fault → Type 0) → IfStops (Ok answer) P → IfStops {X = Unit {0}} (Ok tt) P
 drop_answer answer P h = h
 
-pub other_answer : {X Y : Type 0} (stop : Stop) (P : Option Fault → Type 0) → IfStops {X = X} (Err stop) P → IfStops {X = Y} (Err stop) P
-other_answer (stops.Failed it) P h = h
-other_answer stops.Memory P h = tt
+pub other_answer : (X Y : Type 0) (stop : Stop) (P : Option Fault → Type 0) → IfStops {X = X} (Err stop) P → IfStops {X = Y} (Err stop) P
+other_answer X Y (stops.Failed it) P h = h
+other_answer X Y stops.Memory P h = tt
 
 -- ---- a line of a peer
 

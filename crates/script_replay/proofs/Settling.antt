@@ -57,13 +57,13 @@ aside_then result one other old middle new g h =
     stops_same result (GoesAside other middle new) (GoesAside (one ++ other) old new) (λ stop k line. went_then one other old middle new line line line stop (g line) (k line)) h
 
 -- a call that doesn't come to its end
-pub goes_stop : {X Y : Type 0} (stop : Stop) (one other : List Move) (old new : Run) (before after : ℕ → outside.Line) → IfStops {X = X} (Err stop) (Goes one old new before after) → IfStops {X = Y} (Err stop) (Goes (one ++ other) old new before after)
-goes_stop (stops.Failed it) one other old new before after h = λ ready. let w = h ready in record { did = moves_stop one other (state_of old before) (state_of new after) _ w.did; stays = w.stays }
-goes_stop stops.Memory one other old new before after h = tt
+pub goes_stop : (X Y : Type 0) (stop : Stop) (one other : List Move) (old new : Run) (before after : ℕ → outside.Line) → IfStops {X = X} (Err stop) (Goes one old new before after) → IfStops {X = Y} (Err stop) (Goes (one ++ other) old new before after)
+goes_stop X Y (stops.Failed it) one other old new before after h = λ ready. let w = h ready in record { did = moves_stop one other (state_of old before) (state_of new after) _ w.did; stays = w.stays }
+goes_stop X Y stops.Memory one other old new before after h = tt
 
-pub aside_stop : {X Y : Type 0} (stop : Stop) (one other : List Move) (old new : Run) → IfStops {X = X} (Err stop) (GoesAside one old new) → IfStops {X = Y} (Err stop) (GoesAside (one ++ other) old new)
-aside_stop (stops.Failed it) one other old new h = λ line ready. let w = h line ready in record { did = moves_stop one other (state_of old line) (state_of new line) _ w.did; stays = w.stays }
-aside_stop stops.Memory one other old new h = tt
+pub aside_stop : (X Y : Type 0) (stop : Stop) (one other : List Move) (old new : Run) → IfStops {X = X} (Err stop) (GoesAside one old new) → IfStops {X = Y} (Err stop) (GoesAside (one ++ other) old new)
+aside_stop X Y (stops.Failed it) one other old new h = λ line ready. let w = h line ready in record { did = moves_stop one other (state_of old line) (state_of new line) _ w.did; stays = w.stays }
+aside_stop X Y stops.Memory one other old new h = tt
 
 -- where a move leaves the link alone, it does at this one
 pub line_in : {X : Type 0} (result : Result X Stop) (moves : List Move) (old new : Run) (line : ℕ → outside.Line) → IfStops result (GoesAside moves old new) → IfStops result (Goes moves old new line line)
@@ -230,7 +230,7 @@ settles_here most s now t leads m e = leads t None (record { count = 0; rounds =
 pub settles_fault : (most : ℕ) (s now t : State) (it : Fault) → Leads most s now → MovesAll (round most) now t (Some it) → Settles most s t (Some it)
 settles_fault most s now t it leads m = leads t (Some it) (record { count = 0; rounds = (m, λ none. absurd (let never : Some it ≡ None = none in cc)) })
 
-pub settle_stops : {X Y : Type 0} (stop : Stop) (most : ℕ) (first now new : Run) (before between after : ℕ → outside.Line) → Leads most (state_of first before) (state_of now between) → IsReady now between → IfStops {X = X} (Err stop) (Goes (round most) now new between after)
+pub settle_stops : (X Y : Type 0) (stop : Stop) (most : ℕ) (first now new : Run) (before between after : ℕ → outside.Line) → Leads most (state_of first before) (state_of now between) → IsReady now between → IfStops {X = X} (Err stop) (Goes (round most) now new between after)
     → IfStops {X = Y} (Err stop) (GoesBy (Settles most) first new before after)
-settle_stops (stops.Failed it) most first now new before between after leads ready h = λ _. let w = h ready in record { did = settles_fault most (state_of first before) (state_of now between) (state_of new after) _ leads w.did; stays = w.stays }
-settle_stops stops.Memory most first now new before between after leads ready h = tt
+settle_stops X Y (stops.Failed it) most first now new before between after leads ready h = λ _. let w = h ready in record { did = settles_fault most (state_of first before) (state_of now between) (state_of new after) _ leads w.did; stays = w.stays }
+settle_stops X Y stops.Memory most first now new before between after leads ready h = tt
