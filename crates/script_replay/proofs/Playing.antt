@@ -14,7 +14,7 @@ use Rattle.script_lang.specs.declared.steps.StepKind.{StepKind}
 use Rattle.script_lang.specs.declared.steps.StepKind.TheVariants as line
 use Rattle.script_peers.specs.Laws.{BytesArePut}
 use Rattle.script_peers.specs.Peers.{ScriptedPeer, Acts, acted}
-use Rattle.script_peers.specs.Putting.{is_own, items_by}
+use Rattle.script_peers.specs.Putting.{is_own, items_by, owned_after}
 use Rattle.script_peers.specs.Scripts as peers
 use Rattle.pair_runs.specs.Moves.{Move, Put, MovesAll}
 use Rattle.pair_runs.specs.Runs.{Played, Does, DoesBy, settles, moves_of, AreLines, Plays, PlaysLine, Settles, bytes_of, bytes_in, size_after, MOST, End, Drained, Stopped, Fails, end_by}
@@ -86,6 +86,6 @@ same_bytes (items.Pipe item ∷ all) = same_bytes all
 acts_wire : (what : StepKind) (old new : ScriptedPeer) → Acts what old new → (new.wire ≡ old.wire ++ peers.put_by old.side old.own what) × (new.side ≡ old.side)
 acts_wire what old new (pool, is) = go (is_own old.side what) is
   where
-    go : (b : Bool) → new ≡ (if b then record old { own = _; wire = old.wire ++ items_by old.own what } else old) → (new.wire ≡ old.wire ++ (if b then items_by old.own what else [])) × (new.side ≡ old.side)
+    go : (b : Bool) → new ≡ (if b then record old { own = owned_after pool what old.own; wire = old.wire ++ items_by old.own what } else old) → (new.wire ≡ old.wire ++ (if b then items_by old.own what else [])) × (new.side ≡ old.side)
     go true e = (ap (λ (it : ScriptedPeer). it.wire) e, ap (λ (it : ScriptedPeer). it.side) e)
     go false e = (ap (λ (it : ScriptedPeer). it.wire) e ∙ sym (append-nil old.wire), ap (λ (it : ScriptedPeer). it.side) e)

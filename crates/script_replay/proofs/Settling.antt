@@ -1,5 +1,5 @@
 -- Rows of moves one behind the other, and what a round changes.
-use Rattle.std.proofs.Common.{◌≡◌, ◌≢◌, ℕ, zero, suc, ◌+◌, ◌<◌, ◌≤◌, Bool, true, false, not, is_none, ◌&&◌, ◌||◌, List, [], ◌∷◌, ◌++◌, length, Option, Some, None, Result, Ok, Err, refl, sym, ap, subst, ◌∙◌, arith, inl, inr}
+use Rattle.std.proofs.Common.{◌≡◌, ◌≢◌, ℕ, zero, suc, ◌+◌, ◌<◌, ◌≤◌, Bool, true, false, not, is_none, ◌&&◌, ◌||◌, List, [], ◌∷◌, ◌++◌, take, drop, length, Option, Some, None, Result, Ok, Err, refl, sym, ap, subst, ◌∙◌, arith, inl, inr}
 use Rattle.std.specs.Prelude.{IsTrue, ◌↔◌}
 use Rattle.std.specs.List.{AllByRecursion}
 use Rattle.wp_outside.specs.declared.kinds.Direction.{Direction}
@@ -15,7 +15,7 @@ use Rattle.pair_runs.specs.Measure.{copies_left, wire_left, left, Falls}
 use Rattle.pair_runs.specs.Moves.{Move, Take, LoadAll, ConnectIfHeld, Push, Pull, Changes, Moves, MovesAll, LoadedAll, at_side, Connected, ConnectedBy, PushedOn, PulledOff, PulledBy, WritesBy, holds}
 use Rattle.pair_runs.specs.Runs.{round, Rounds, Settles}
 use Rattle.pair_runs.specs.Sides.{SideState}
-use Rattle.pair_runs.specs.States.{State, Fault, Lanes, side_at, with_side, on_lane, writer, reader}
+use Rattle.pair_runs.specs.States.{State, Fault, Lanes, side_at, with_side, lane_at, on_lane, writer, reader}
 use Rattle.pair_runs.proofs.Falling.{InRound, Takes, Loads, Connects, Pushes, Pulls, moves_fall, round_falls, falls_left, quiet_first, loaded_none}
 use Rattle.script_replay.specs.Going.{IfStops, Went, GoesBy, Goes, GoesAside}
 use Rattle.script_replay.specs.Settling.{bring, carry, ChangedIf, ChangedAside, Leads}
@@ -134,12 +134,12 @@ pull_wires : (dir : Direction) (most : ℕ) → LeavesWires (Pull dir most)
 pull_wires dir most s t h = go s.line h
   where
     by : (fault : Option ProxyFault) (bytes : List ℕ) → PulledBy fault dir bytes s t → SameWires s t
-    by None bytes (b, reads, is) = lane_wires dir (reader dir) _ b s t is
-    by (Some fault) bytes (b, (pulled, reads, is)) = lane_wires dir (reader dir) _ b s t is
+    by None bytes (b, reads, is) = lane_wires dir (reader dir) (λ lane. drop (length bytes) lane) b s t is
+    by (Some fault) bytes (b, (pulled, reads, is)) = lane_wires dir (reader dir) (λ lane. drop (length pulled) lane) b s t is
 
     go : (line : Option Lanes) → PulledOff line dir most s t None → SameWires s t
     go None d = same_wires s t d.0
-    go (Some lanes) (fault, pulled, stop) = by fault _ pulled
+    go (Some lanes) (fault, pulled, stop) = by fault (take most (lane_at dir lanes)) pulled
 
 moves_wires : (moves : List Move) (s t : State) → AllByRecursion LeavesWires moves → MovesAll moves s t None → SameWires s t
 moves_wires [] s t h m = same_wires s t m.0
