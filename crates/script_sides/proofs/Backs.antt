@@ -85,7 +85,7 @@ out_awaits half job t h e =
     not_none words_in h.one.before (sent_out job) h.one.after (ap (map words_in) (sym (is_awaited job t.now h ∙ h.one.row)) ∙ e)
 
 -- those of the copy that is out, and those of the others
-pub others_left : (half : ℕ) {job : Job} {jobs : List Job} → OneOut job jobs → ℕ
+abbrev pub others_left : (half : ℕ) {job : Job} {jobs : List Job} → OneOut job jobs → ℕ
 others_left half one = sum_by (left_in half) one.before + sum_by (left_in half) one.after
 
 pub half_words : (half : ℕ) (job : Job) (t : TrailState) (h : CopiesAre (Some job) t.now) → half ≤ job.part.count → words_left (side_seen half t) ≡ others_left half h.one + (job.part.count - half)

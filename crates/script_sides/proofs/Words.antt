@@ -42,7 +42,7 @@ parts_have file segments (piece ∷ pieces) =
     all_append HasWords (parts_of_piece file segments piece) (parts_of file segments pieces) (from_have file 0 segments (8 * piece.first) (8 * piece.end)) (parts_have file segments pieces)
 
 -- and so has each job
-pub JobHas : Job → Type 0
+abbrev pub JobHas : Job → Type 0
 JobHas job = 0 < job.part.count
 
 jobs_have : (jobs : List Job) → AllByRecursion HasWords (map (λ job. job.part) jobs) → AllByRecursion JobHas jobs
@@ -54,15 +54,15 @@ follow_have owed jobs h = jobs_have jobs (subst (λ (parts : List Part). AllByRe
 
 -- ---- the words that are left of a job
 
-pub left_in : ℕ → Job → ℕ
+abbrev pub left_in : ℕ → Job → ℕ
 left_in half job = job.part.count - loaded_in half job
 
 -- no more are loaded of a job than it has
-pub Fair : ℕ → Job → Type 0
+abbrev pub Fair : ℕ → Job → Type 0
 Fair half job = loaded_in half job ≤ words_in job
 
 -- one that is not back has some left
-pub Lacks : ℕ → Job → Type 0
+abbrev pub Lacks : ℕ → Job → Type 0
 Lacks half job = is_back job.state ≡ false → 0 < left_in half job
 
 pub left_sum : (half : ℕ) (jobs : List Job) → AllByRecursion (Fair half) jobs → sum (map words_in jobs) ≡ sum_by (loaded_in half) jobs + sum_by (left_in half) jobs

@@ -3,8 +3,7 @@
 ghost use Rattle.std.specs.Prelude.{◌≡◌, ◌<◌, false, Ok};
 ghost use Rattle.pair_runs.specs.Loading.{LoadsAll};
 ghost use Rattle.script_sides.specs.Answering.{Answers, Leaves};
-ghost use Rattle.script_sides.specs.Progressing.{LoadsBy, LoadsMessage, LoadedBy, Begins};
-ghost use Rattle.script_sides.specs.Progressing.{IsLent, HandsBack};
+ghost use Rattle.script_sides.specs.Progressing.{LoadsBy, LoadsMessage, LoadedBy, Begins, IsLast, before};
 ghost use Rattle.script_sides.specs.Ready.{IsReady};
 ghost use Rattle.script_sides.specs.Sided.{state_of};
 
