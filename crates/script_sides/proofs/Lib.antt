@@ -5,3 +5,5 @@ pub mod Wires
 pub mod Words
 pub mod Loadings
 pub mod Backs
+pub mod Links
+pub mod Acting

@@ -70,7 +70,9 @@ impl ScriptSide {
         ensures leaves { Leaves result self.old self.new }
         ensures wire { self.new.peer.wire ≡ self.old.peer.wire }
     {
-        self.trail.feed_peer(item)?;
+        let answer = self.trail.feed_peer(item);
+        self.trail.stands();
+        answer?;
         match self.give() {
             Ok(()) => Ok(()),
             Err(_) => Err(ProxyFault::Memory),
