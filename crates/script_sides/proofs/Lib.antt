@@ -7,3 +7,4 @@ pub mod Loadings
 pub mod Backs
 pub mod Links
 pub mod Acting
+pub mod Calls

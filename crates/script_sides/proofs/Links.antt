@@ -1,5 +1,5 @@
 -- What the calls of a side's connection leave, and where a side begins.
-use Rattle.std.proofs.Common.{◌≡◌, ◌≢◌, ℕ, ◌+◌, ◌<◌, ◌≤◌, List, [], ◌∷◌, ◌++◌, take, drop, map, length, Bool, true, false, not, Option, Some, None, Result, Ok, Err, OnOk, refl, sym, ap, subst, ◌∙◌, arith, nat_lt, length-drop, length-map, inl, inr, ◌⊎◌}
+use Rattle.std.proofs.Common.{◌≡◌, ◌≢◌, ℕ, ◌+◌, ◌<◌, ◌≤◌, List, [], ◌∷◌, ◌++◌, take, drop, map, length, Bool, true, false, not, Option, Some, None, Result, Ok, Err, OnOk, refl, sym, ap, subst, ◌∙◌, arith, nat_lt, length-drop, inl, inr, ◌⊎◌}
 use Rattle.std.proofs.lemmas.Bool.{ltb-true, ltb-false}
 use Rattle.std.proofs.lemmas.List.{drop_all}
 use Rattle.std.specs.List.{AllByRecursion}
@@ -69,7 +69,7 @@ first_ready side = record {
 
 -- ---- which of two cases
 
-pub running : {X : Type 0} (fault : Option ProxyFault) (P : Type 0) (Q : ProxyFault → Type 0) → fault ≡ None → MatchOption fault P Q → P
+pub running : (fault : Option ProxyFault) (P : Type 0) (Q : ProxyFault → Type 0) → fault ≡ None → MatchOption fault P Q → P
 running None P Q e h = h
 running (Some fault) P Q e h = absurd cc
 
