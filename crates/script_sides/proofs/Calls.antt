@@ -133,3 +133,11 @@ asks_fell reason it new fault h k calls = stopped fault it (asking new it) h.sou
 
 pub asks_stops : (reason : ℕ) (it : SideRun) (new : TrailState) (fault : ProxyFault) → IsReady it → TrailCalls (Asks reason) (Err fault) it.trail new → WorksInPart (asked (state_of it)) (state_of (asking new it))
 asks_stops reason it new fault h calls = asks_fails (half_loaded it.half) reason fault it.trail new h.sound.runs calls
+
+-- ---- asked for the first time
+
+pub closes : (a b : SideState) → a.inside.asked ≡ false → Works false (asked a) b → ClosedBy a.inside.asked None a b
+closes a b e w = subst (λ (said : Bool). ClosedBy said None a b) (sym e) w
+
+pub closes_not : (fault : ProxyFault) (a b : SideState) → a.inside.asked ≡ false → WorksInPart (asked a) b → ClosedBy a.inside.asked (Some fault) a b
+closes_not fault a b e p = subst (λ (said : Bool). ClosedBy said (Some fault) a b) (sym e) p

@@ -3,6 +3,7 @@ use Rattle.std.proofs.lemmas.Result.{err_from_is_err_and}
 use Rattle.script_sides.specs.Sided.{state_of, is_up}
 use Rattle.script_sides.specs.Answering.{Leaves, Stays, Stops}
 use Rattle.script_sides.proofs.Links.{with_trail}
+use Rattle.side_model.specs.declared.fault.ProxyFault.{ProxyFault}
 use Rattle.pair_runs.specs.Linking.{read}
 use Rattle.pair_runs.specs.Working.{Works}
 use Rattle.script_sides.specs.Linked.{Hears}
@@ -27,7 +28,8 @@ returns-in_err-answer-clause-leaves c =
     let h : IsReady it = subst (λ (x : SideRun). IsReady x) (sym c.self.view_is) c.requires.ready in
     let p = err_from_is_err_and c.from_residual.result c.from_residual.ensures.1 in
     rw (p.1, p.2)
-    (subst (λ (x : SideRun). Leaves (Err c.in_err-answer.field-0.0) x (with_trail c.feed_link-answer.new.self it)) c.self.view_is
+    (let failed : Result Unit ProxyFault = Err c.in_err-answer.field-0.0 in
+    subst (λ (x : SideRun). Leaves failed x (with_trail c.feed_link-answer.new.self it)) c.self.view_is
     (λ n. came_fell c.args.piece.now it c.feed_link-answer.new.self c.in_err-answer.field-0.0 h c.stands.ensures c.in_err-answer.ensures))
 
 pub give-requires : goal.give-requires

@@ -3,6 +3,7 @@ use Rattle.std.proofs.lemmas.Result.{err_from_is_err_and}
 use Rattle.script_sides.specs.Sided.{state_of, is_up}
 use Rattle.script_sides.specs.Answering.{Leaves, Stays, Stops}
 use Rattle.script_sides.proofs.Links.{with_trail}
+use Rattle.side_model.specs.declared.fault.ProxyFault.{ProxyFault}
 use Rattle.pair_runs.specs.Sides.{fed, wants}
 use Rattle.pair_runs.specs.Working.{Works, WorksInPart}
 use Rattle.receipt_laws.specs.Owning.{PutIsOwn}
@@ -38,7 +39,8 @@ returns-in_err-answer-clause-leaves c =
     let own : PutIsOwn (OwnOf it.peer) c.args.item = subst (λ (x : SideRun). PutIsOwn (OwnOf x.peer) c.args.item) (sym c.self.view_is) c.requires.own in
     let p = err_from_is_err_and c.from_residual.result c.from_residual.ensures.1 in
     rw (p.1, p.2)
-    (subst (λ (x : SideRun). Leaves (Err c.in_err-answer.field-0.0) x (with_trail c.feed_peer-answer.new.self it)) c.self.view_is
+    (let failed : Result Unit ProxyFault = Err c.in_err-answer.field-0.0 in
+    subst (λ (x : SideRun). Leaves failed x (with_trail c.feed_peer-answer.new.self it)) c.self.view_is
     (λ n. fed_fell c.args.item it c.feed_peer-answer.new.self c.in_err-answer.field-0.0 h c.stands.ensures c.in_err-answer.ensures))
 
 pub give-requires : goal.give-requires
