@@ -25,15 +25,15 @@ use Rattle.receipt_laws.proofs.Jobs.{is_back_of, back_is_awaited, back_is_own, s
 use Rattle.receipt_laws.proofs.OutCalls.{calls_hand}
 use Rattle.script_sides.specs.Halves.{HalfState, IsDoneOf}
 use Rattle.script_sides.specs.Progressing.{LoadsPart, LoadsWhole, LoadStops, unloaded, before, IsLast}
-use Rattle.script_sides.specs.Ready.{OwnOf, IsHalf, IsSound}
-use Rattle.script_sides.specs.Sided.{SideRun, state_of}
+use Rattle.script_sides.specs.Ready.{OwnOf, IsHalf, HalfFits, IsSound}
+use Rattle.script_sides.specs.Sided.{SideRun, state_of, half_loaded}
 use Rattle.script_sides.proofs.Kins.{Kin, call_kin, handed_kin}
 use Rattle.script_sides.proofs.Sounds.{called, CallsOn, goes_on, sound_call}
-use Rattle.script_sides.proofs.Words.{JobHas, follow_have, left_in, left_sum, some_left, none_left, all_lack, out_fair, out_left, handed_back, is_awaited, more_loaded}
+use Rattle.script_sides.proofs.Words.{JobHas, follow_have, left_in, left_sum, some_left, none_left, all_fair, all_lack, out_fair, out_left, handed_back, is_awaited, more_loaded}
 use Rattle.side_model.specs.declared.fault.ProxyFault.{ProxyFault}
 use Rattle.side_model.specs.Books.{Book, marked_trail, grown, grow_all, closed}
 use Rattle.side_model.specs.Calls.{Part}
-use Rattle.side_model.specs.Due.{hear, group, group_found, work, next}
+use Rattle.side_model.specs.Due.{hear, group, group_found, treat, end, choose, work, next}
 use Rattle.side_model.specs.Events.{Event, Handed, Grouped, Next, Do, Rest, or_next}
 use Rattle.side_model.specs.Follows.{JobsFollow}
 use Rattle.side_model.specs.Marks.{mark_grouped}
@@ -85,7 +85,7 @@ out_awaits half job t h e =
     not_none words_in h.one.before (sent_out job) h.one.after (ap (map words_in) (sym (is_awaited job t.now h ∙ h.one.row)) ∙ e)
 
 -- those of the copy that is out, and those of the others
-pub others_left : (half : ℕ) {job : Job} {jobs : List Job} → OneOut job jobs → ℕ
+abbrev pub others_left : (half : ℕ) {job : Job} {jobs : List Job} → OneOut job jobs → ℕ
 others_left half one = sum_by (left_in half) one.before + sum_by (left_in half) one.after
 
 pub half_words : (half : ℕ) (job : Job) (t : TrailState) (h : CopiesAre (Some job) t.now) → half ≤ job.part.count → words_left (side_seen half t) ≡ others_left half h.one + (job.part.count - half)
@@ -130,25 +130,25 @@ no_others half job t h e =
 
 copies_count : (jobs : List Job) → all_back jobs ≡ true → length (copies_of jobs) ≡ length jobs
 copies_count [] e = refl
-copies_count (job ∷ jobs) e = by_state job.state e
+copies_count (job ∷ jobs) e = by_state (λ k. copies_count jobs k) job.state e
   where
-    by_state : (state : JobState) → (is_back state && all_back jobs) ≡ true → length (cons_option (copied job.part job.low state) (copies_of jobs)) ≡ suc (length jobs)
-    by_state (Waits eye) k = absurd cc
-    by_state IsOut k = absurd cc
-    by_state (IsBack words receipt) k = ap (λ (n : ℕ). suc n) (copies_count jobs k)
+    by_state : (all_back jobs ≡ true → length (copies_of jobs) ≡ length jobs) → (state : JobState) → (is_back state && all_back jobs) ≡ true → length (cons_option (copied job.part job.low state) (copies_of jobs)) ≡ suc (length jobs)
+    by_state rest (Waits eye) k = absurd cc
+    by_state rest IsOut k = absurd cc
+    by_state rest (IsBack words receipt) k = ap (λ (n : ℕ). suc n) (rest k)
 
 handed_count : (done : Done) (jobs : List Job) → length (handed done jobs) ≡ length jobs
 handed_count done [] = refl
-handed_count done (job ∷ jobs) = by_done (is_done done job)
+handed_count done (job ∷ jobs) = by_done (handed_count done jobs) (is_done done job)
   where
-    by_done : (b : Bool) → length (cond b (record job { state = IsBack done.words done.receipt } ∷ jobs) (job ∷ handed done jobs)) ≡ suc (length jobs)
-    by_done true = refl
-    by_done false = ap (λ (n : ℕ). suc n) (handed_count done jobs)
+    by_done : length (handed done jobs) ≡ length jobs → (b : Bool) → length (cond b (record job { state = IsBack done.words done.receipt } ∷ jobs) (job ∷ handed done jobs)) ≡ suc (length jobs)
+    by_done rest true = refl
+    by_done rest false = ap (λ (n : ℕ). suc n) rest
 
 -- the group of the last message is due
 group_next : (s : Now) (made : MadeGroup) → hear s ≡ Rest → group_due s.live.sending.owes s.kept.jobs ≡ Some made → next s ≡ Do Grouped
 unfolding next work group
-group_next s made quiet due = ap (λ (it : Next). or_next it (work s)) quiet ∙ ap (λ (found : Option MadeGroup). or_next (group_found found) _) due
+group_next s made quiet due = ap (λ (it : Next). or_next it (work s)) quiet ∙ ap (λ (found : Option MadeGroup). or_next (group_found found) (or_next (treat s) (or_next (end s) (choose s)))) due
 
 grown_group : (s : Now) (book : Book) (made : MadeGroup) → group_due s.live.sending.owes s.kept.jobs ≡ Some made → (grown Grouped s book).trail.copies ≡ book.trail.copies ++ made.copies
 grown_group s book made due = ap (λ (found : Option MadeGroup). (marked_trail (mark_grouped found) book.trail).copies) due
@@ -308,3 +308,27 @@ handed_stops count half done fault it new last d calls =
           let part : WorksInPart (side_seen was it.trail) (side_seen was new) = handed_fails was (done_of done) fault it.trail new last.ready.sound.runs calls in
           record { took = part.took; messages = part.messages; bytes = part.bytes; trail = part.trail; order = part.order };
     }
+
+-- ---- between two calls
+
+-- where copies are awaited, words are left
+pub ready_left : (it : SideRun) → IsSound it → (state_of it).copies ≡ [] ⊎ (0 < words_left (state_of it))
+ready_left it s = by_half it.half s.half
+  where
+    t : TrailState
+    t = it.trail
+
+    by_back : (owed : Owed) → CopiesAre None t.now → AllByRecursion JobHas t.now.kept.jobs → (b : Bool) → all_back t.now.kept.jobs ≡ b
+        → (map words_in (if b then [] else t.now.kept.jobs) ≡ []) ⊎ (0 < sum (map words_in (if b then [] else t.now.kept.jobs)) - sum_by (loaded_in 0) (if b then [] else t.now.kept.jobs))
+    by_back owed h have true e = inl refl
+    by_back owed h have false e =
+        inr (omega (arith, left_sum 0 t.now.kept.jobs (all_fair 0 t.now.kept.jobs h.one), some_left 0 t.now.kept.jobs (all_lack 0 t.now.kept.jobs h.one have) e))
+
+    by_owes : (owes : Option Owed) → JobsFollow owes t.now.kept.jobs → CopiesAre None t.now
+        → (map words_in (awaited owes t.now.kept.jobs) ≡ []) ⊎ (0 < sum (map words_in (awaited owes t.now.kept.jobs)) - sum_by (loaded_in 0) (awaited owes t.now.kept.jobs))
+    by_owes None f h = inl refl
+    by_owes (Some owed) f h = by_back owed h (follow_have owed t.now.kept.jobs f) (all_back t.now.kept.jobs) refl
+
+    by_half : (half : Option HalfState) → HalfFits it.peer t.now half → (side_seen (half_loaded half) t).copies ≡ [] ⊎ (0 < words_left (side_seen (half_loaded half) t))
+    by_half None h = by_owes t.now.live.sending.owes (s.runs.keeps.runs s.runs.goes_on).follows.jobs h
+    by_half (Some half) h = inr (omega (arith, half_words half.loaded h.job t h.copies (omega (arith, h.begun, h.count)), h.begun, h.count))

@@ -5,3 +5,8 @@ pub mod Wires
 pub mod Words
 pub mod Loadings
 pub mod Backs
+pub mod Links
+pub mod Acting
+pub mod Calls
+pub mod Takes
+pub mod Lends

@@ -1,10 +1,9 @@
 //! How the words of copies are loaded.
 
-ghost use Rattle.std.specs.Prelude.{◌≡◌, ◌<◌, false, Ok};
+ghost use Rattle.std.specs.Prelude.{◌≡◌, ◌≢◌, ◌<◌, true, false, [], None, Ok};
 ghost use Rattle.pair_runs.specs.Loading.{LoadsAll};
 ghost use Rattle.script_sides.specs.Answering.{Answers, Leaves};
-ghost use Rattle.script_sides.specs.Progressing.{LoadsBy, LoadsMessage, LoadedBy, Begins};
-ghost use Rattle.script_sides.specs.Progressing.{IsLent, HandsBack};
+ghost use Rattle.script_sides.specs.Progressing.{LoadsBy, LoadsMessage, LoadedBy, Begins, IsLast, before};
 ghost use Rattle.script_sides.specs.Ready.{IsReady};
 ghost use Rattle.script_sides.specs.Sided.{state_of};
 
@@ -27,7 +26,7 @@ impl ScriptSide {
         ensures wire { self.new.peer.wire ≡ self.old.peer.wire }
     {
         let mut left = words;
-        while left > 0 {
+        'parts: while left > 0 {
             match self.load_some(left)? {
                 Progress::Nothing => return Ok(left),
                 Progress::Part(count) => left -= count,
@@ -46,11 +45,12 @@ impl ScriptSide {
         requires { IsReady self.old }
         ensures loads { Answers result (LoadsAll (state_of self.old) (state_of self.new)) }
         ensures none { result ≡ Ok false → state_of self.new ≡ state_of self.old }
+        ensures some { result ≡ Ok true → (state_of self.old).copies ≢ [] }
         ensures leaves { Leaves result self.old self.new }
         ensures wire { self.new.peer.wire ≡ self.old.peer.wire }
     {
         let mut loaded = false;
-        while self.load_message()? {
+        'messages: while self.load_message()? {
             loaded = true;
         }
         Ok(loaded)
@@ -100,22 +100,41 @@ impl ScriptSide {
     {
         match self.half.take() {
             Some(half) => Some(half),
-            None => match self.trail.next_copy() {
-                Some(copy) => Some(HalfCopy::new(copy)),
-                None => None,
-            },
+            None => self.lend(),
+        }
+    }
+
+    /// Lends the next copy.
+    fn lend(&mut self) -> Option<HalfCopy>
+        requires ready { IsReady self.old }
+        requires none { self.old.half ≡ None }
+        ensures { Begins result self.old self.new }
+    {
+        let copy = self.trail.next_copy();
+        self.trail.stands();
+        match copy {
+            Some(copy) => Some(HalfCopy::new(copy)),
+            None => None,
         }
     }
 
     /// Hands back a copy that is loaded whole, of which so many words were loaded just now.
-    fn hand_back(&mut self, half: HalfCopy, count: usize) -> Result<Progress, ProxyFault> {
-        let before = self.trail.record().copies.len();
-        self.trail.copy_done(half.finish())?;
+    fn hand_back(&mut self, half: HalfCopy, count: usize) -> Result<Progress, ProxyFault>
+        requires { IsLast count half self.old }
+        ensures loads { LoadedBy count (state_of (before count half self.old)) (state_of self.new)
+            result }
+        ensures leaves { Leaves result self.old self.new }
+        ensures wire { self.new.peer.wire ≡ self.old.peer.wire }
+    {
+        let made = self.trail.record().copies.len();
+        let answer = self.trail.copy_done(half.finish());
+        self.trail.stands();
+        answer?;
         match self.give() {
             Ok(()) => {}
             Err(_) => return Err(ProxyFault::Memory),
         }
-        if self.trail.record().copies.len() == before {
+        if self.trail.record().copies.len() == made {
             Ok(Progress::Part(count))
         } else {
             Ok(Progress::Whole(count))
