@@ -127,6 +127,9 @@ line_tells c a b e n = part_tells c a b (inr (ap (λ (it : SideState). it.book) 
 limits : (run : Run) (line : ℕ → outside.Line) (fault : ProxyFault) → IsReadyAside run → (fault ≡ Limit Connections → MOST_CONNECTIONS < run.last + 1) → fault ≡ Limit Connections → MOST_CONNECTIONS ≤ connections (state_of run line)
 limits run line fault r above e = omega (arith, above e, connections_are run line r)
 
+not_up : (up : Bool) (last : ℕ) (s : State) → up ≡ false → up ≡ true → last ≡ connections s
+not_up up last s down e = absurd (let never : false ≡ true = sym down ∙ e in cc)
+
 -- the near side meets a fault
 pub connect_near : ReadyGoesOn → (old : Run) (near : SideRun) (line : ℕ → outside.Line) (fault : ProxyFault) → old.up ≡ false → IsReady old line → LineInPart (old.last + 1) (sided.state_of old.near) (sided.state_of near) → (fault ≡ Limit Connections → MOST_CONNECTIONS < old.last + 1)
     → Stops old.near near fault → near.peer.wire ≡ old.near.peer.wire → Went (MovesAll (Connect ∷ [])) old (record old { near = near }) line line (Some (record { side = Near; fault = fault }))
@@ -141,8 +144,11 @@ connect_near law old near line fault down r part above stops wire =
         );
         kept = (subst (λ (side : Side). HasFailed side (sided.state_of near) fault) r.aside.near.side_is stops.failed, goes_on law Far old.far old.last old.up r.aside.far);
       });
-      stays = tells_failed Near fault (connections t) (rows_of t.near) (rows_of t.far) line
-          (half_opened (rows_of s.near) (rows_of s.far) (rows_of t.near) (rows_of t.far) line (part_tells (old.last + 1) (sided.state_of old.near) (sided.state_of near) part) (with_same (rows_of s.far)) r.tells);
+      stays = record {
+        tells = tells_failed Near fault (connections t) (rows_of t.near) (rows_of t.far) line
+            (half_opened (rows_of s.near) (rows_of s.far) (rows_of t.near) (rows_of t.far) line (part_tells (old.last + 1) (sided.state_of old.near) (sided.state_of near) part) (with_same (rows_of s.far)) r.tells);
+        last = not_up old.up old.last t down;
+      };
     }
 
 -- or the far side
@@ -165,8 +171,11 @@ connect_far law old near far line fault down r en un part above stops wn wf =
         );
         kept = (goes_on law Near near (old.last + 1) true (up_at Near (old.last + 1) old.last old.up old.near near r.aside.near en un), subst (λ (side : Side). HasFailed side (sided.state_of far) fault) r.aside.far.side_is stops.failed);
       });
-      stays = tells_failed Far fault (connections t) (rows_of t.near) (rows_of t.far) line
-          (half_opened (rows_of s.near) (rows_of s.far) (rows_of t.near) (rows_of t.far) line (line_tells (old.last + 1) (sided.state_of old.near) (sided.state_of near) en) (part_tells (old.last + 1) (sided.state_of old.far) (sided.state_of far) part) r.tells);
+      stays = record {
+        tells = tells_failed Far fault (connections t) (rows_of t.near) (rows_of t.far) line
+            (half_opened (rows_of s.near) (rows_of s.far) (rows_of t.near) (rows_of t.far) line (line_tells (old.last + 1) (sided.state_of old.near) (sided.state_of near) en) (part_tells (old.last + 1) (sided.state_of old.far) (sided.state_of far) part) r.tells);
+        last = not_up old.up old.last t down;
+      };
     }
 
 -- ---- not made

@@ -154,6 +154,9 @@ same_number bytes a b e = ap last_number e ∙ last_changed (with_written bytes)
 read_number : (bytes : List ℕ) (a b : SideState) → rows_of b ≡ on_last (with_read bytes) (rows_of a) → last_number (rows_of b) ≡ last_number (rows_of a)
 read_number bytes a b e = ap last_number e ∙ last_changed (with_read bytes) (keeps_read bytes) (rows_of a)
 
+numbers_are : (near far : SideRun) (last : ℕ) → last_number (rows_of (sided.state_of near)) ≡ last → last_number (rows_of (sided.state_of far)) ≡ last → (run : Run) (line : ℕ → outside.Line) → run.near ≡ near → run.far ≡ far → connections (state_of run line) ≡ last
+numbers_are near far last en ef run line n f = omega (arith, ap (λ (it : SideRun). last_number (rows_of (sided.state_of it))) n, ap (λ (it : SideRun). last_number (rows_of (sided.state_of it))) f, en, ef)
+
 failed_near : ReadyGoesOn → (old : Run) (near : SideRun) (line : ℕ → outside.Line) (fault : ProxyFault) → IsReadyAside old → LeavesPeer old.near near → HasFailed near.peer.side (sided.state_of near) fault → KeptAt Near fault (state_of (record old { near = near }) line)
 failed_near law old near line fault r peer failed =
     (subst (λ (side : Side). HasFailed side (sided.state_of near) fault) (peer.side_is ∙ r.near.side_is) failed, goes_on law Far old.far old.last old.up r.far)
@@ -184,7 +187,10 @@ push_near law old near before after most (Some fault) up r h =
         changes = pushed_on (line_at old.up (before old.last)) (lanes_of (before old.last)) Up most (state_of old before) t h.bytes (sided.state_of near) (Some fault) (line_up old.up (before old.last) up) h.writes (push_up_is old near before after h.bytes up h.peer.wire h.change);
         kept = failed_near law old near after fault r.aside h.peer h.stays;
       });
-      stays = tells_failed Near fault (connections t) (rows_of t.near) (rows_of t.far) after (tells_written_near old near before after h.bytes law up r rows h.change);
+      stays = record {
+        tells = tells_failed Near fault (connections t) (rows_of t.near) (rows_of t.far) after (tells_written_near old near before after h.bytes law up r rows h.change);
+        last = λ e. sym (numbers_are near old.far old.last (same_number h.bytes (sided.state_of old.near) (sided.state_of near) rows ∙ r.aside.near.number) r.aside.far.number new after refl refl);
+      };
     }
 
 pub push_far : ReadyGoesOn → (old : Run) (far : SideRun) (before after : ℕ → outside.Line) (most : ℕ) (stop : Option ProxyFault) → old.up ≡ true → IsReady old before → Sends most old.last Down old.far far before after stop
@@ -209,7 +215,10 @@ push_far law old far before after most (Some fault) up r h =
         changes = pushed_on (line_at old.up (before old.last)) (lanes_of (before old.last)) Down most (state_of old before) t h.bytes (sided.state_of far) (Some fault) (line_up old.up (before old.last) up) h.writes (push_down_is old far before after h.bytes up h.peer.wire h.change);
         kept = failed_far law old far after fault r.aside h.peer h.stays;
       });
-      stays = tells_failed Far fault (connections t) (rows_of t.near) (rows_of t.far) after (tells_written_far old far before after h.bytes law up r rows h.change);
+      stays = record {
+        tells = tells_failed Far fault (connections t) (rows_of t.near) (rows_of t.far) after (tells_written_far old far before after h.bytes law up r rows h.change);
+        last = λ e. sym (numbers_are old.near far old.last r.aside.near.number (same_number h.bytes (sided.state_of old.far) (sided.state_of far) rows ∙ r.aside.far.number) new after refl refl);
+      };
     }
 
 -- none is up
@@ -266,9 +275,6 @@ tells_pulled_near law old near before after count got refused up r rows b is =
     subst (λ (lines : List Line). TellsBut Near old.last refused lines (rows_of (sided.state_of old.far)) after) (sym rows)
     (pulled_down got refused count (rows_of (sided.state_of old.near)) (rows_of (sided.state_of old.far)) before after old.last b is (last_of law Near old.near old.last old.up up (r.some up) r.aside.near) r.aside.near.number r.tells)
 
-numbers_are : (near far : SideRun) (last : ℕ) → last_number (rows_of (sided.state_of near)) ≡ last → last_number (rows_of (sided.state_of far)) ≡ last → (run : Run) (line : ℕ → outside.Line) → run.near ≡ near → run.far ≡ far → connections (state_of run line) ≡ last
-numbers_are near far last en ef run line n f = omega (arith, ap (λ (it : SideRun). last_number (rows_of (sided.state_of it))) n, ap (λ (it : SideRun). last_number (rows_of (sided.state_of it))) f, en, ef)
-
 pub pull_far : ReadyGoesOn → (old : Run) (far : SideRun) (before after : ℕ → outside.Line) (most : ℕ) (stop : Option ProxyFault) → old.up ≡ true → IsReady old before → Came most old.last Up old.far far before after stop
     → Went (MovesAll (Pull Up most ∷ [])) old (record old { far = far }) before after (at_side Far stop)
 pull_far law old far before after most None up r h =
@@ -297,11 +303,14 @@ pull_far law old far before after most (Some fault) up r h =
         kept = failed_far law old far after fault r.aside h.peer h.stays;
       });
       stays = record {
-        piece = p.refused;
-        few = p.piece;
-        because = p.because;
-        tells = subst (λ (n : ℕ). TellsBut Far n p.refused (rows_of t.near) (rows_of t.far) after) (sym number)
-            (tells_pulled_far law old far before after (length h.comes.0) p.got p.refused up r rows h.comes.2 (part_front most (before old.last).up.waiting fault h.comes.0 (sided.state_of old.far) (sided.state_of far) p));
+        tells = record {
+          piece = p.refused;
+          few = p.piece;
+          because = p.because;
+          tells = subst (λ (n : ℕ). TellsBut Far n p.refused (rows_of t.near) (rows_of t.far) after) (sym number)
+              (tells_pulled_far law old far before after (length h.comes.0) p.got p.refused up r rows h.comes.2 (part_front most (before old.last).up.waiting fault h.comes.0 (sided.state_of old.far) (sided.state_of far) p));
+        };
+        last = λ e. sym number;
       };
     }
 
@@ -333,10 +342,13 @@ pull_near law old near before after most (Some fault) up r h =
         kept = failed_near law old near after fault r.aside h.peer h.stays;
       });
       stays = record {
-        piece = p.refused;
-        few = p.piece;
-        because = p.because;
-        tells = subst (λ (n : ℕ). TellsBut Near n p.refused (rows_of t.near) (rows_of t.far) after) (sym number)
-            (tells_pulled_near law old near before after (length h.comes.0) p.got p.refused up r rows h.comes.2 (part_front most (before old.last).down.waiting fault h.comes.0 (sided.state_of old.near) (sided.state_of near) p));
+        tells = record {
+          piece = p.refused;
+          few = p.piece;
+          because = p.because;
+          tells = subst (λ (n : ℕ). TellsBut Near n p.refused (rows_of t.near) (rows_of t.far) after) (sym number)
+              (tells_pulled_near law old near before after (length h.comes.0) p.got p.refused up r rows h.comes.2 (part_front most (before old.last).down.waiting fault h.comes.0 (sided.state_of old.near) (sided.state_of near) p));
+        };
+        last = λ e. sym number;
       };
     }

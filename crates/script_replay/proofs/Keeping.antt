@@ -102,6 +102,12 @@ pub tells_with : (side : Side) (old : Run) (new : SideRun) (line : ℕ → outsi
 tells_with Near old new line e t = tells_same (rows_of (sided.state_of old.near)) (rows_of (sided.state_of old.far)) (rows_of (sided.state_of new)) (rows_of (sided.state_of old.far)) line e refl t
 tells_with Far old new line e t = tells_same (rows_of (sided.state_of old.near)) (rows_of (sided.state_of old.far)) (rows_of (sided.state_of old.near)) (rows_of (sided.state_of new)) line refl e t
 
+-- the connection that is up is the last one
+pub last_with : (side : Side) (old : Run) (new : SideRun) (line : ℕ → outside.Line) → IsReadyAside old → rows_of (sided.state_of new) ≡ rows_of (sided.state_of (run_at side old))
+    → (with_run side new old).up ≡ true → (with_run side new old).last ≡ connections (state_of (with_run side new old) line)
+last_with Near old new line r e up = omega (arith, ap last_number e, r.near.number, r.far.number)
+last_with Far old new line r e up = omega (arith, ap last_number e, r.near.number, r.far.number)
+
 -- ---- one move
 
 pub one_move : (move : Move) (s t : State) → Moves move s t None → MovesAll (move ∷ []) s t None
@@ -124,7 +130,10 @@ side_moves law side old new move None changes leaves e = λ line ready. record {
 }
 side_moves law side old new move (Some fault) changes leaves e = λ line ready. record {
   did = one_fault move (state_of old line) (state_of (with_run side new old) line) (record { side = side; fault = fault }) (record { changes = changes line; kept = kept_failed law side old new fault line ready.aside leaves });
-  stays = tells_failed side fault (connections (state_of (with_run side new old) line)) (rows_of (sided.state_of (with_run side new old).near)) (rows_of (sided.state_of (with_run side new old).far)) line (tells_with side old new line e ready.tells);
+  stays = record {
+    tells = tells_failed side fault (connections (state_of (with_run side new old) line)) (rows_of (sided.state_of (with_run side new old).near)) (rows_of (sided.state_of (with_run side new old).far)) line (tells_with side old new line e ready.tells);
+    last = last_with side old new line ready.aside e;
+  };
 }
 
 -- ---- why a call stops

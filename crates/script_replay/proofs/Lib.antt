@@ -7,3 +7,6 @@ pub mod Leaving
 pub mod Arriving
 pub mod Settling
 pub mod Playing
+pub mod Acting
+pub mod Ending
+pub mod Answering

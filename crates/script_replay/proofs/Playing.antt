@@ -73,19 +73,18 @@ pub other_answer : (X Y : Type 0) (stop : Stop) (P : Option Fault → Type 0) �
 other_answer X Y (stops.Failed it) P h = h
 other_answer X Y stops.Memory P h = tt
 
--- ---- a line of a peer
+-- ---- by what the line is
 
--- both crates tell the bytes among items alike
-same_bytes : (all : List PeerIn) → bytes_in all ≡ peers.bytes_in all
-same_bytes [] = refl
-same_bytes (items.Bytes bytes ∷ all) = ap (λ (rest : List ℕ). bytes ++ rest) (same_bytes all)
-same_bytes (items.Handle handle ∷ all) = same_bytes all
-same_bytes (items.Note note ∷ all) = same_bytes all
-same_bytes (items.Pipe item ∷ all) = same_bytes all
+pub line_goes : {X : Type 0} (what other : StepKind) (moves : List Move) (result : Result X Stop) (old new : Run) (before after : ℕ → outside.Line) → what ≡ other → settles other ≡ false → [] ≡ puts.put_by Near other ++ puts.put_by Far other → moves_of other [] ≡ moves
+    → IfStops result (Goes moves old new before after) → IfStops result (GoesBy (DoesLine what) old new before after)
+line_goes what other moves result old new before after same e bytes is h =
+    subst (λ (it : StepKind). IfStops result (GoesBy (DoesLine it) old new before after)) (sym same) (goes_line other moves result old new before after e bytes is h)
 
-acts_wire : (what : StepKind) (old new : ScriptedPeer) → Acts what old new → (new.wire ≡ old.wire ++ peers.put_by old.side old.own what) × (new.side ≡ old.side)
-acts_wire what old new (pool, is) = go (is_own old.side what) is
-  where
-    go : (b : Bool) → new ≡ (if b then record old { own = owned_after pool what old.own; wire = old.wire ++ items_by old.own what } else old) → (new.wire ≡ old.wire ++ (if b then items_by old.own what else [])) × (new.side ≡ old.side)
-    go true e = (ap (λ (it : ScriptedPeer). it.wire) e, ap (λ (it : ScriptedPeer). it.side) e)
-    go false e = (ap (λ (it : ScriptedPeer). it.wire) e ∙ sym (append-nil old.wire), ap (λ (it : ScriptedPeer). it.side) e)
+pub line_done : (what other : StepKind) (moves : List Move) (old new : Run) (before after : ℕ → outside.Line) → what ≡ other → settles other ≡ false → [] ≡ puts.put_by Near other ++ puts.put_by Far other → moves_of other [] ≡ moves
+    → Goes moves old new before after None → GoesBy (DoesLine what) old new before after None
+line_done what other moves old new before after same e bytes is h = line_goes {X = Unit {0}} what other moves (Ok tt) old new before after same e bytes is h
+
+pub line_quiet : {X : Type 0} (what other : StepKind) (result : Result X Stop) (old new : Run) (before after : ℕ → outside.Line) → what ≡ other → settles other ≡ true → [] ≡ puts.put_by Near other ++ puts.put_by Far other
+    → IfStops result (GoesBy (Settles MOST) old new before after) → IfStops result (GoesBy (DoesLine what) old new before after)
+line_quiet what other result old new before after same e bytes h =
+    subst (λ (it : StepKind). IfStops result (GoesBy (DoesLine it) old new before after)) (sym same) (goes_settles other result old new before after e bytes h)

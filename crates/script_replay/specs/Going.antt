@@ -1,6 +1,6 @@
 -- What a call of a replay comes to: moves of a run, and what both sides keep behind them, or the
 -- fault that stopped it; this project's own.
-use Rattle.std.specs.Prelude.{◌≡◌, ℕ, List, [], ◌∷◌, Option, Some, None, Result, Ok, Err}
+use Rattle.std.specs.Prelude.{◌≡◌, ℕ, true, List, [], ◌∷◌, Option, Some, None, Result, Ok, Err}
 use Rattle.wp_outside.specs.declared.kinds.Side.{Side}
 use Rattle.wp_outside.specs.Lines as outside
 use Rattle.side_model.specs.declared.fault.ProxyFault.{ProxyFault}
@@ -33,12 +33,17 @@ IfStops (Err stops.Memory) P = Unit {0}
 
 -- ---- what is kept
 
--- the replay may go on, or a side has failed and the store tells what was written and read
+-- a side has failed: the store tells what was written and read, and the connection that is up, if
+-- one is, is the last one
+pub record HasStopped (it : Fault) (run : Run) (line : ℕ → outside.Line) : Type 0 where
+  pub tells : TellsFailed it.side it.fault (connections (state_of run line))
+      (rows_of (state_of run line).near) (rows_of (state_of run line).far) line
+  pub last : run.up ≡ true → run.last ≡ connections (state_of run line)
+
+-- the replay may go on, or a side has failed
 abbrev pub Stays : Option Fault → Run → (ℕ → outside.Line) → Type 0
 Stays None run line = IsReady run line
-Stays (Some it) run line =
-    let s = state_of run line in
-    TellsFailed it.side it.fault (connections s) (rows_of s.near) (rows_of s.far) line
+Stays (Some it) run line = HasStopped it run line
 
 -- ---- what a call does
 

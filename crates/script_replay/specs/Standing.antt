@@ -57,3 +57,7 @@ pub record IsReady (run : Run) (line : ℕ → outside.Line) : Type 0 where
 -- nothing was opened on the link
 abbrev pub NothingOpened : (ℕ → outside.Line) → Type 0
 NothingOpened line = (connection : ℕ) → (line connection).was_opened ≡ false
+
+-- and nothing went over it
+abbrev pub IsEmpty : (ℕ → outside.Line) → Type 0
+IsEmpty line = (connection : ℕ) → line connection ≡ outside.fresh_line

@@ -10,6 +10,8 @@ ghost use Rattle.script_replay.specs.Standing.{IsReady};
 use crate::failures::Stop;
 use crate::run::Run;
 use script_lang::StepKind;
+use script_peers::laws::bytes_are_put;
+use script_sides::laws::ready_goes_on;
 use wp_outside::LinkStore;
 
 /// The size of the rounds of a line that moves all that waits, of those at the end unless a line
@@ -28,6 +30,8 @@ impl Run {
         requires ready { IsReady self.old (L.line line.old) }
         ensures { IfStops result (GoesBy (DoesLine what.now) self.old self.new (L.line line.old) (L.line line.new)) }
     {
+        ready_goes_on();
+        bytes_are_put();
         match what {
             StepKind::Await { .. } => self.settle(MOST, line, room),
             StepKind::Settle => self.settle(MOST, line, room),

@@ -1,8 +1,9 @@
 //! The moves that leave the link alone.
 
-ghost use Rattle.std.specs.Prelude.{◌≡◌, ℕ, [], ◌∷◌, false, true, OnOk, IfOk};
+ghost use Rattle.std.specs.Prelude.{◌≡◌, ℕ, [], ◌∷◌, false, true, OnOk, IfOk, IfErr};
 ghost use Rattle.pair_runs.specs.Moves.{Take, Load, LoadAll, Close};
 ghost use Rattle.script_replay.specs.Going.{IfStops, GoesAside};
+ghost use Rattle.script_replay.specs.declared.failures.Stop.TheVariants as stops;
 ghost use Rattle.script_replay.specs.Playing.{ActsAt};
 ghost use Rattle.script_replay.specs.Settling.{ChangedAside};
 ghost use Rattle.script_replay.specs.Standing.{IsReadyAside};
@@ -20,6 +21,7 @@ impl Run {
         ensures near { OnOk result (ActsAt what.now self.old.near self.new.near) }
         ensures far { OnOk result (ActsAt what.now self.old.far self.new.far) }
         ensures line { self.new ≡ record self.old { near = self.new.near; far = self.new.far } }
+        ensures memory { IfErr result (λ stop. stop ≡ stops.Memory) }
     {
         match self.near.act(what) {
             Ok(()) => match self.far.act(what) {

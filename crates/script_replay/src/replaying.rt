@@ -1,7 +1,8 @@
 //! A whole replay.
 
 ghost use Rattle.std.specs.Prelude.{◌≡◌, ◌<◌, length, IfOk, vec_len};
-ghost use Rattle.script_replay.specs.Outcome.{Replays};
+ghost use Rattle.proxy_trail.specs.declared.pair.PairEnd.TheVariants as ends;
+ghost use Rattle.script_replay.specs.Outcome.{Replays, IsKept, last_in};
 ghost use Rattle.script_replay.specs.Playing.{PlaysTo};
 ghost use Rattle.script_replay.specs.Standing.{IsReady, NothingOpened};
 
@@ -76,7 +77,9 @@ fn play<L: LinkStore>(
 }
 
 /// A failure as the end of a run.
-fn failed(failure: Failure) -> PairEnd {
+fn failed(failure: Failure) -> PairEnd
+    ensures { result ≡ ends.Fault failure.side failure.fault }
+{
     PairEnd::Fault {
         side: failure.side,
         fault: failure.fault,
@@ -84,7 +87,9 @@ fn failed(failure: Failure) -> PairEnd {
 }
 
 /// The greatest number of a connection of a side, or 0 where it has none.
-fn last_connection(trail: &Trail) -> u32 {
+fn last_connection(trail: &Trail) -> u32
+    ensures { result ≡ last_in trail.now }
+{
     match trail.record().lines.as_slice().last() {
         Some(line) => line.connection,
         None => 0,
@@ -92,7 +97,9 @@ fn last_connection(trail: &Trail) -> u32 {
 }
 
 /// What is kept of a run that has ended.
-fn record_of(run: Run, end: PairEnd) -> PairRecord {
+fn record_of(run: Run, end: PairEnd) -> PairRecord
+    ensures { IsKept run end result }
+{
     let (near, application) = run.near.into_parts();
     let (far, compositor) = run.far.into_parts();
     let connections = last_connection(&near).max(last_connection(&far));

@@ -3,7 +3,7 @@
 ghost use Rattle.std.specs.Prelude.{◌≡◌, ℕ, IfOk};
 ghost use Rattle.wp_outside.specs.Lines as outside;
 ghost use Rattle.pair_runs.specs.States.{first_state};
-ghost use Rattle.script_replay.specs.Standing.{state_of, IsReady, NothingOpened};
+ghost use Rattle.script_replay.specs.Standing.{state_of, IsReady, IsEmpty};
 
 use script_sides::ScriptSide;
 use std::alloc::{AllocError, Global};
@@ -27,7 +27,7 @@ impl Run {
     /// Only where memory runs out.
     pub(crate) fn new(alloc: Global) -> Result<Run, AllocError>
         ensures first { IfOk result (λ run. (line : ℕ → outside.Line) → state_of run line ≡ first_state) }
-        ensures ready { IfOk result (λ run. (line : ℕ → outside.Line) → NothingOpened line → IsReady run line) }
+        ensures ready { IfOk result (λ run. (line : ℕ → outside.Line) → IsEmpty line → IsReady run line) }
     {
         match ScriptSide::new(alloc, Side::Near) {
             Ok(near) => match ScriptSide::new(alloc, Side::Far) {
