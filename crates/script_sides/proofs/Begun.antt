@@ -38,7 +38,7 @@ loaded_by most count a b (Err fault) l h = h
 -- some words of a copy that is out were loaded, and not the last one
 pub record LoadsOn (most count : ℕ) (half new : HalfState) : Type 0 where
   pub some : 0 < most
-  pub count : count ≡ min most (half.count - half.loaded)
+  pub taken : count ≡ min most (half.count - half.loaded)
   pub is : new ≡ more_of count half
   pub left : half.loaded + count < half.count
 
@@ -51,8 +51,8 @@ part_loaded most count half new old mid b l =
     let words : words_left (side_seen half.loaded mid.trail) ≡ others_left half.loaded out.copies.one + (out.job.part.count - half.loaded) =
         half_words half.loaded out.job mid.trail out.copies (omega (arith, out.begun, out.count)) in
     record {
-      some = omega (arith, l.some, l.count, out.begun);
-      few = omega (arith, l.count);
+      some = omega (arith, l.some, l.taken, out.begun);
+      few = omega (arith, l.taken);
       left = omega (arith, words, ap words_left b.same, l.left, out.count);
       is =
           ap (λ (it : HalfState). side_seen it.loaded mid.trail) l.is

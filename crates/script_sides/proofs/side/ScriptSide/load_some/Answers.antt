@@ -18,7 +18,7 @@ pub returns-else-is_whole-clause-loads : goal.returns-else-is_whole-clause-loads
 returns-else-is_whole-clause-loads c =
     let on : LoadsOn c.args.most c.load-count.result c.in-Some.half c.load-count.new.self = record {
       some = c.requires.some;
-      count = c.load-count.ensures.count;
+      taken = c.load-count.ensures.count;
       is = c.load-count.ensures.loaded;
       left =
           not_last c.load-count.result c.in-Some.half c.load-count.new.self c.load-count.ensures.loaded c.load-count.ensures.within
@@ -31,7 +31,7 @@ pub returns-else-is_whole-clause-leaves : goal.returns-else-is_whole-clause-leav
 returns-else-is_whole-clause-leaves c =
     let on : LoadsOn c.args.most c.load-count.result c.in-Some.half c.load-count.new.self = record {
       some = c.requires.some;
-      count = c.load-count.ensures.count;
+      taken = c.load-count.ensures.count;
       is = c.load-count.ensures.loaded;
       left =
           not_last c.load-count.result c.in-Some.half c.load-count.new.self c.load-count.ensures.loaded c.load-count.ensures.within
