@@ -179,6 +179,10 @@ front_of [] back = refl
 front_of (x ∷ out) back = ap (λ (it : List ℕ). x ∷ it) (front_of out back)
 
 pub sights_rows : (i : ℕ) (front out back : List ℕ) → sights i (take (length front + length out) (front ++ (out ++ back))) ≡ sights i front ++ sights (i + length front) out
-sights_rows i [] out back = ap (sights i) (front_of out back) ∙ ap (λ (n : ℕ). sights n out) (omega arith)
+sights_rows i [] out back =
+    let none : length {A = ℕ} [] + length out ≡ length out = omega arith in
+    ap (λ (n : ℕ). sights i (take n (out ++ back))) none ∙ ap (sights i) (front_of out back) ∙ ap (λ (n : ℕ). sights n out) (omega arith)
 sights_rows i (x ∷ front) out back =
-    ap (λ (it : List Sight). sight i x ∷ it) (sights_rows (i + 1) front out back ∙ ap (λ (n : ℕ). sights (i + 1) front ++ sights n out) (omega arith))
+    let more : length (x ∷ front) + length out ≡ suc (length front + length out) = omega arith in
+    ap (λ (n : ℕ). sights i (take n (x ∷ (front ++ (out ++ back))))) more
+    ∙ ap (λ (it : List Sight). sight i x ∷ it) (sights_rows (i + 1) front out back ∙ ap (λ (n : ℕ). sights (i + 1) front ++ sights n out) (omega arith))
