@@ -1,19 +1,18 @@
 -- What it comes to that words of a copy are loaded.
-use Rattle.std.proofs.Common.{◌≡◌, ◌≢◌, ℕ, ◌+◌, ◌-◌, ◌<◌, ◌≤◌, min, Option, Some, None, Result, Ok, Err, refl, sym, ap, subst, ◌∙◌, arith}
+use Rattle.std.proofs.Common.{◌≡◌, ◌≢◌, ℕ, ◌+◌, ◌-◌, ◌<◌, ◌≤◌, min, Result, Ok, Err, sym, ap, subst, ◌∙◌, arith}
 use Rattle.pair_runs.specs.Sides.{SideState, side_seen, words_left}
 use Rattle.script_peers.specs.Peers.{ScriptedPeer}
 use Rattle.script_sides.specs.Answering.{Stays}
 use Rattle.script_sides.specs.Halves.{HalfState}
 use Rattle.script_sides.specs.declared.progress.Progress.{Progress}
 use Rattle.script_sides.specs.declared.progress.Progress.TheVariants.{Nothing, Part, Whole}
-use Rattle.script_sides.specs.Progressing.{LoadsPart, LoadedBy, with_half, BeginsCopy, unloaded, before, IsLast}
-use Rattle.script_sides.specs.Ready.{IsHalf, IsSound, IsReady}
-use Rattle.script_sides.specs.Sided.{SideRun, state_of, half_loaded}
+use Rattle.script_sides.specs.Progressing.{LoadsPart, LoadedBy, with_half, BeginsCopy, unloaded, before}
+use Rattle.script_sides.specs.Ready.{IsHalf, IsSound}
+use Rattle.script_sides.specs.Sided.{SideRun, state_of}
 use Rattle.script_sides.proofs.Backs.{others_left, half_words}
 use Rattle.script_sides.proofs.Words.{more_loaded}
 use Rattle.side_model.specs.declared.fault.ProxyFault.{ProxyFault}
 use Rattle.side_model.specs.State.{Now}
-use Rattle.side_model.specs.Trails.{TrailState}
 
 -- a copy of which so many words more are loaded
 abbrev pub more_of : ℕ → HalfState → HalfState

@@ -1,5 +1,5 @@
 -- What it comes to that a copy is handed back, and that all that the proxy makes of it is given.
-use Rattle.std.proofs.Common.{◌≡◌, ◌≢◌, ℕ, ◌<◌, [], length, Option, Some, None, Result, Ok, Err, refl, sym, ap, subst, ◌∙◌, arith, inl, inr, ◌⊎◌}
+use Rattle.std.proofs.Common.{◌≡◌, ◌≢◌, ℕ, [], length, Option, None, Ok, Err, refl, sym, ap, subst, ◌∙◌, arith, inl, inr, ◌⊎◌}
 use Rattle.copy_workers.specs.Copies.{DoneState}
 use Rattle.owed_groups.specs.Lending.{done_of}
 use Rattle.pair_runs.specs.Sides.{SideState, side_seen}

@@ -1,20 +1,19 @@
 -- How many words of copies are left to be loaded, where one copy at a time is out.
-use Rattle.std.proofs.Common.{◌≡◌, ◌≢◌, ℕ, zero, suc, ◌+◌, ◌-◌, ◌*◌, ◌<◌, ◌≤◌, List, [], ◌∷◌, ◌++◌, map, length, min, ℤ, Bool, true, false, ◌&&◌, cond, Option, Some, None, refl, sym, ap, subst, ◌∙◌, arith, if◌then◌else◌}
+use Rattle.std.proofs.Common.{◌≡◌, ℕ, suc, ◌+◌, ◌-◌, ◌*◌, ◌<◌, ◌≤◌, List, [], ◌∷◌, ◌++◌, map, length, min, ℤ, Bool, true, false, ◌&&◌, cond, Option, Some, None, refl, sym, ap, subst, ◌∙◌, arith, if◌then◌else◌}
 use Rattle.std.proofs.Math.Dec.{ltb}
-use Rattle.std.proofs.lemmas.Bool.{cond_both, ltb-true, true≢false, false≢true}
+use Rattle.std.proofs.lemmas.Bool.{cond_both, ltb-true}
 use Rattle.std.proofs.lemmas.List.Sums.{sum_by-cons, sum_by-append}
 use Rattle.std.proofs.lemmas.List.Folds.{list_all-append}
 use Rattle.std.specs.List.{AllByRecursion}
-use Rattle.std.specs.Prelude.{sum, sum_by, find, take}
+use Rattle.std.specs.Prelude.{sum, sum_by, take}
 use Rattle.block_intervals.specs.declared.run.Run.{Run}
 use Rattle.half_model.specs.Filling.{Part, part_in, parts_from, parts_of_piece, parts_of}
 use Rattle.half_model.specs.Group.{Owed}
-use Rattle.half_model.specs.Jobs.{Job, JobState, Waits, IsOut, IsBack, Done, waits, is_out, is_back, first_waiting, is_done, awaits, handed, all_back}
-use Rattle.half_model.specs.TurnLaws.{JobsOf}
-use Rattle.pair_runs.specs.Sides.{SideState, awaited, loaded_by, loaded_in, words_in, side_seen, words_left}
+use Rattle.half_model.specs.Jobs.{Job, JobState, Waits, IsOut, IsBack, Done, is_out, is_back, is_done, handed, all_back}
+use Rattle.pair_runs.specs.Sides.{awaited, loaded_by, loaded_in, words_in, side_seen}
 use Rattle.pool_words.specs.declared.views.Sight.{Sight}
-use Rattle.pool_words.specs.Views.{EyeState, sight, sights}
-use Rattle.receipt_laws.specs.Lending.{IsIn, sent_out, OneOut, CopiesAre}
+use Rattle.pool_words.specs.Views.{sight, sights}
+use Rattle.receipt_laws.specs.Lending.{IsIn, sent_out, CopiesAre}
 use Rattle.receipt_laws.proofs.Jobs.{is_not_done, one_back, some_out}
 use Rattle.side_model.proofs.Sounds.{all_append}
 use Rattle.side_model.specs.Follows.{JobsFollow}

@@ -1,8 +1,6 @@
-use Rattle.std.proofs.Common.{◌≡◌, ◌≢◌, ℕ, ◌<◌, List, [], length, Option, Some, None, Result, Ok, Err, refl, sym, ap, subst, ◌∙◌, arith, ◌⊎◌}
+use Rattle.std.proofs.Common.{◌≡◌, length, Result, Err, sym, ap, subst, ◌∙◌, arith, ◌⊎◌}
 use Rattle.std.proofs.lemmas.Result.{err_from_is_err_and}
-use Rattle.half_model.specs.declared.notes.CopyRecord.{CopyRecord}
 use Rattle.script_sides.specs.declared.progress.Progress.{Progress}
-use Rattle.script_sides.specs.declared.progress.Progress.TheVariants.{Part, Whole}
 use Rattle.script_sides.specs.Answering.{Leaves, Stays}
 use Rattle.script_sides.specs.Progressing.{LoadedBy, LoadsPart, LoadsWhole, before, IsLast}
 use Rattle.script_sides.specs.Sided.{SideRun, state_of}

@@ -1,8 +1,8 @@
-use Rattle.std.proofs.Common.{◌≡◌, ℕ, ◌+◌, ◌-◌, ◌<◌, ◌≤◌, min, refl, sym, ap, subst, ◌∙◌, arith}
+use Rattle.std.proofs.Common.{◌≤◌, sym, subst, arith}
 use Rattle.std.proofs.lemmas.Bool.{iff_false}
 use Rattle.pair_runs.specs.Sides.{SideState}
 use Rattle.script_sides.specs.Answering.{Stays}
-use Rattle.script_sides.specs.Progressing.{LoadedBy, LoadsPart, BeginsCopy, with_half, before}
+use Rattle.script_sides.specs.Progressing.{LoadedBy, LoadsPart, with_half}
 use Rattle.script_sides.specs.Sided.{SideRun, state_of}
 use Rattle.script_sides.proofs.Begun.{LoadsOn, not_last, last_was, loaded_by, part_loaded, part_stays}
 use Rattle.script_sides.proofs.side.ScriptSide.load_some.Goals as goal
