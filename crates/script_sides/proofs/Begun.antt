@@ -48,7 +48,7 @@ pub part_loaded : (most count : ℕ) (half new : HalfState) (old mid : SideRun) 
 part_loaded most count half new old mid b l =
     let out : IsHalf mid.peer mid.trail.now half = b.ready.sound.half in
     let words : words_left (side_seen half.loaded mid.trail) ≡ others_left half.loaded out.copies.one + (out.job.part.count - half.loaded) =
-        half_words half.loaded out.job mid.trail out.copies (omega (arith, out.begun, out.count)) in
+    half_words half.loaded out.job mid.trail out.copies (omega (arith, out.begun, out.count)) in
     record {
       some = omega (arith, l.some, l.taken, out.begun);
       few = omega (arith, l.taken);

@@ -32,7 +32,7 @@ pub back_fell : (count : ℕ) (half : HalfState) (done : DoneState) (fault : Pro
     → Stops it (with_trail new it) fault
 back_fell count half done fault it new last k calls =
     let stops : Stops (before count half it) (with_trail new it) fault =
-        stopped fault (before count half it) (with_trail new it) last.ready.sound k (call_fell (Handed (done_of done)) fault it.trail new last.ready.sound.runs calls) refl in
+    stopped fault (before count half it) (with_trail new it) last.ready.sound k (call_fell (Handed (done_of done)) fault it.trail new last.ready.sound.runs calls) refl in
     record { told = stops.told; side = stops.side; failed = stops.failed }
 
 -- ---- a good one

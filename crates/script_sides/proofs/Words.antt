@@ -127,9 +127,15 @@ all_lack half (job ∷ jobs) h k = (λ d. in_lacks half job.part.count job.state
 pub out_loaded : (half more : ℕ) (job : Job) (before after : List Job) → AllByRecursion IsIn before → AllByRecursion IsIn after
     → sum_by (loaded_in (half + more)) (before ++ sent_out job ∷ after) ≡ sum_by (loaded_in half) (before ++ sent_out job ∷ after) + more
 out_loaded half more job before after h k =
-    omega (arith, sum_by-append (loaded_in (half + more)) before (sent_out job ∷ after), sum_by-append (loaded_in half) before (sent_out job ∷ after),
-    sum_by-cons (loaded_in (half + more)) (sent_out job) after, sum_by-cons (loaded_in half) (sent_out job) after,
-    in_loaded (half + more) half before h, in_loaded (half + more) half after k)
+    omega (
+      arith,
+      sum_by-append (loaded_in (half + more)) before (sent_out job ∷ after),
+      sum_by-append (loaded_in half) before (sent_out job ∷ after),
+      sum_by-cons (loaded_in (half + more)) (sent_out job) after,
+      sum_by-cons (loaded_in half) (sent_out job) after,
+      in_loaded (half + more) half before h,
+      in_loaded (half + more) half after k,
+    )
 
 pub out_fair : (half : ℕ) (job : Job) (before after : List Job) → half ≤ job.part.count → AllByRecursion IsIn before → AllByRecursion IsIn after → AllByRecursion (Fair half) (before ++ sent_out job ∷ after)
 out_fair half job before after l h k = all_append (Fair half) before (sent_out job ∷ after) (all_fair half before h) (l, all_fair half after k)

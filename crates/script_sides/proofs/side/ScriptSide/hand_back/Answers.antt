@@ -43,10 +43,10 @@ returns-clause-loads c =
     let it : SideRun = record { trail = c.self.inside.trail; peer = c.self.inside.peer; half = c.self.inside.half; asked = c.self.inside.asked } in
     let last : IsLast c.args.count c.args.half it = subst (λ (x : SideRun). IsLast c.args.count c.args.half x) (sym c.self.view_is) c.requires in
     let hands : HandsPart c.args.count (state_of (before c.args.count c.args.half it)) (state_of c.give.new.self) ⊎ HandsWhole c.args.count (state_of (before c.args.count c.args.half it)) (state_of c.give.new.self) =
-        back_hands c.args.count c.args.half c.finish.result it c.copy_done-answer.new.self c.give.new.self last c.finish.ensures c.stands.ensures c.in_ok-answer.ensures c.in-Ok.ensures.gives in
+    back_hands c.args.count c.args.half c.finish.result it c.copy_done-answer.new.self c.give.new.self last c.finish.ensures c.stands.ensures c.in_ok-answer.ensures c.in-Ok.ensures.gives in
     let was : c.len-made.result ≡ length it.trail.book.trail.copies = c.len-made.ensures ∙ ap (λ (trail : TrailRecord). length trail.copies) c.record.ensures in
     let now : c.len.result ≡ length c.give.new.self.trail.book.trail.copies =
-        c.len.ensures ∙ ap (λ (trail : TrailRecord). length trail.copies) c.record-2.ensures ∙ ap (λ (x : SideRun). length x.trail.book.trail.copies) c.self-2.view_is in
+    c.len.ensures ∙ ap (λ (trail : TrailRecord). length trail.copies) c.record-2.ensures ∙ ap (λ (x : SideRun). length x.trail.book.trail.copies) c.self-2.view_is in
     let Told : Result Progress ProxyFault → Type 0 = λ (told : Result Progress ProxyFault). LoadedBy c.args.count (state_of (before c.args.count c.args.half c.args.self.now)) (state_of c.give.new.self) told in
     elim c.if-len-made.branch [
       | then-len-made w ↦ subst Told (sym w.result-is)
@@ -62,8 +62,8 @@ returns-clause-leaves c =
     let it : SideRun = record { trail = c.self.inside.trail; peer = c.self.inside.peer; half = c.self.inside.half; asked = c.self.inside.asked } in
     let last : IsLast c.args.count c.args.half it = subst (λ (x : SideRun). IsLast c.args.count c.args.half x) (sym c.self.view_is) c.requires in
     let stays : Stays c.args.self.now c.give.new.self =
-        subst (λ (x : SideRun). Stays x c.give.new.self) c.self.view_is
-        (back_stays c.args.count c.args.half c.finish.result it c.copy_done-answer.new.self c.give.new.self last c.in_ok-answer.ensures c.in-Ok.ensures.gives c.in-Ok.ensures.ready) in
+    subst (λ (x : SideRun). Stays x c.give.new.self) c.self.view_is
+    (back_stays c.args.count c.args.half c.finish.result it c.copy_done-answer.new.self c.give.new.self last c.in_ok-answer.ensures c.in-Ok.ensures.gives c.in-Ok.ensures.ready) in
     let Told : Result Progress ProxyFault → Type 0 = λ (told : Result Progress ProxyFault). Leaves told c.args.self.now c.give.new.self in
     elim c.if-len-made.branch [
       | then-len-made w ↦ subst Told (sym w.result-is) stays
