@@ -1,24 +1,21 @@
 -- What it comes to that a copy is handed back.
-use Rattle.std.proofs.Common.{◌≡◌, ◌≢◌, ℕ, zero, suc, ◌+◌, ◌-◌, ◌<◌, ◌≤◌, List, [], ◌∷◌, ◌++◌, map, length, Bool, true, false, ◌&&◌, cond, Option, Some, None, Result, Ok, Err, refl, sym, ap, subst, ◌∙◌, arith, length-append, inl, inr, ◌⊎◌, if◌then◌else◌}
+use Rattle.std.proofs.Common.{◌≡◌, ◌≢◌, ℕ, suc, ◌+◌, ◌-◌, ◌<◌, ◌≤◌, List, [], ◌∷◌, ◌++◌, map, length, Bool, true, false, ◌&&◌, cond, Option, Some, None, Ok, Err, refl, sym, ap, subst, ◌∙◌, arith, length-append, inl, inr, ◌⊎◌, if◌then◌else◌}
 use Rattle.std.specs.List.{AllByRecursion, cons_option}
 use Rattle.std.specs.Prelude.{sum, sum_by}
 use Rattle.copy_workers.specs.Copies.{DoneState}
-use Rattle.half_model.specs.declared.notes.CopyRecord.{CopyRecord}
-use Rattle.half_model.specs.Filling.{Part as Words}
 use Rattle.half_model.specs.Group.{Owed}
 use Rattle.half_model.specs.Jobs.{Job, JobState, Waits, IsOut, IsBack, Done, is_back, is_done, awaits, handed, all_back, copied, copies_of}
 use Rattle.half_model.specs.Turn.{MadeGroup, made_of, group_due}
 use Rattle.owed_groups.specs.Lending.{done_of}
-use Rattle.pair_runs.specs.Sides.{SideState, awaited, words_in, loaded_in, side_seen, seen, all_loaded, words_left, last_number}
+use Rattle.pair_runs.specs.Sides.{SideState, awaited, words_in, loaded_in, side_seen, all_loaded, words_left, last_number}
 use Rattle.pair_runs.specs.WorkLaws.{RunsOn}
 use Rattle.pair_runs.specs.Working.{Works, WorksInPart}
 use Rattle.pair_runs.proofs.Calling.{Ran, ran_by, quiet_still}
 use Rattle.pair_runs.proofs.Handing.{handed_is, handed_works, none_out}
 use Rattle.pair_runs.proofs.Failing.{handed_fails}
-use Rattle.pair_runs.proofs.More.{gives_no_more}
 use Rattle.pair_runs.proofs.Rowing.{row_works}
 use Rattle.pool_words.specs.Views.{EyeState}
-use Rattle.receipt_laws.specs.Lending.{FitsEye, JobFits, IsIn, sent_out, OneOut, CopiesAre, IsBackOf}
+use Rattle.receipt_laws.specs.Lending.{FitsEye, JobFits, sent_out, OneOut, CopiesAre, IsBackOf}
 use Rattle.receipt_laws.specs.Owning.{BringsOwn}
 use Rattle.receipt_laws.proofs.Calls.{calls_keep_own}
 use Rattle.receipt_laws.proofs.Jobs.{is_back_of, back_is_awaited, back_is_own, some_out}
@@ -27,8 +24,8 @@ use Rattle.script_sides.specs.Halves.{HalfState, IsDoneOf}
 use Rattle.script_sides.specs.Progressing.{LoadsPart, LoadsWhole, LoadStops, unloaded, before, IsLast}
 use Rattle.script_sides.specs.Ready.{OwnOf, IsHalf, HalfFits, IsSound}
 use Rattle.script_sides.specs.Sided.{SideRun, state_of, half_loaded}
-use Rattle.script_sides.proofs.Kins.{Kin, call_kin, handed_kin}
-use Rattle.script_sides.proofs.Sounds.{called, CallsOn, goes_on, sound_call}
+use Rattle.script_sides.proofs.Kins.{call_kin, handed_kin}
+use Rattle.script_sides.proofs.Sounds.{called, goes_on, sound_call}
 use Rattle.script_sides.proofs.Words.{JobHas, follow_have, left_in, left_sum, some_left, none_left, all_fair, all_lack, out_fair, out_left, handed_back, is_awaited, more_loaded}
 use Rattle.side_model.specs.declared.fault.ProxyFault.{ProxyFault}
 use Rattle.side_model.specs.Books.{Book, marked_trail, grown, grow_all, closed}

@@ -15,10 +15,10 @@ use Rattle.receipt_laws.specs.Lending.{IsIn, CopiesAre}
 use Rattle.receipt_laws.proofs.Calls.{first_has, steps_keep_own, lent_is_own}
 use Rattle.receipt_laws.proofs.OutCalls.{calls_lend}
 use Rattle.script_sides.specs.Halves.{HalfState, unused, half_of}
-use Rattle.script_sides.specs.Progressing.{LoadsNothing, with_half, BeginsCopy, BeginsNone}
+use Rattle.script_sides.specs.Progressing.{LoadsNothing, with_half, BeginsCopy, BeginsNone, Begins}
 use Rattle.script_sides.specs.Ready.{OwnOf, HalfFits, IsSound, IsReady}
 use Rattle.script_sides.specs.Sided.{SideRun, state_of, half_loaded}
-use Rattle.script_sides.proofs.Links.{with_trail}
+use Rattle.script_sides.proofs.Links.{running, with_trail}
 use Rattle.script_sides.proofs.Words.{JobHas, follow_have}
 use Rattle.side_model.specs.Events.{Lent}
 use Rattle.side_model.specs.Follows.{JobsFollow}
@@ -119,3 +119,22 @@ lends_copy it job copy h e k found lent ready =
       peer = refl;
       up = refl;
     }
+
+-- ---- whatever is lent
+
+abbrev pub half_lent : Option CopyJob → Option HalfState
+half_lent None = None
+half_lent (Some copy) = Some (half_of copy)
+
+lends_found : (it : SideRun) (result : Option CopyJob) (found : Option Job) → IsReady it → it.half ≡ None → Keeps (trail_step Lent it.trail) → first_waiting it.trail.now.kept.jobs ≡ found → Lends result found → MatchOption result (Unit {0}) copies.IsReady
+    → Begins (half_lent result) it (with_trail (trail_step Lent it.trail) it)
+lends_found it None None h e k found lent ready = lends_none it h e k found
+lends_found it None (Some job) h e k found lent ready = absurd lent
+lends_found it (Some copy) None h e k found lent ready = absurd lent
+lends_found it (Some copy) (Some job) h e k found lent ready = lends_copy it job copy h e k found lent ready
+
+pub lends_next : (it : SideRun) (new : TrailState) (result : Option CopyJob) → IsReady it → it.half ≡ None → Keeps new → Lends result (first_waiting it.trail.now.kept.jobs) → new ≡ trail_step Lent it.trail → MatchOption result (Unit {0}) copies.IsReady
+    → Begins (half_lent result) it (with_trail new it)
+lends_next it new result h e k lent is ready =
+    subst (λ (t : TrailState). Begins (half_lent result) it (with_trail t it)) (sym is)
+    (lends_found it result (first_waiting it.trail.now.kept.jobs) h e (subst (λ (t : TrailState). Keeps t) is k) refl lent ready)

@@ -1,5 +1,5 @@
 -- What it comes to that a side takes the next item of its peer's wire.
-use Rattle.std.proofs.Common.{◌≡◌, ◌≢◌, ℕ, ◌-◌, ℤ, List, [], ◌∷◌, Bool, true, false, Option, Some, None, Result, Ok, Err, refl, sym, ap, subst, ◌∙◌, inl, inr}
+use Rattle.std.proofs.Common.{◌≡◌, ◌≢◌, ℕ, ◌-◌, ◌<◌, ◌≤◌, ℤ, List, [], ◌∷◌, Bool, true, false, Option, Some, None, Result, Ok, Err, refl, sym, ap, subst, ◌∙◌, arith, inl, inr}
 use Rattle.half_model.specs.declared.items.PeerIn.{PeerIn}
 use Rattle.pair_runs.specs.Sides.{SideState, fed, wants}
 use Rattle.pair_runs.specs.Taking.{Cut, Taker, cut_item}
@@ -14,7 +14,7 @@ use Rattle.script_peers.specs.declared.item_queue.WireItem.{WireItem}
 use Rattle.script_sides.specs.Answering.{Stays}
 use Rattle.script_sides.specs.Ready.{OwnOf, IsReady}
 use Rattle.script_sides.specs.Sided.{SideRun, state_of, taker_of, half_loaded, is_up}
-use Rattle.script_sides.specs.Takings.{TakesOne, TakesNothing, TakesNext}
+use Rattle.script_sides.specs.Takings.{TakesOne, TakesNothing, TakesNext, TookSome}
 use Rattle.script_sides.proofs.Sounds.{wire_more, sound_more}
 use Rattle.script_sides.proofs.Wires.{Off, off_own, Onward, one_more}
 use Rattle.shm_pools.specs.Files.{FileState}
@@ -77,16 +77,34 @@ takes_part most it peer one last w off wire part = record {
 
 -- ---- one after another
 
+-- what is taken now may be taken
+takes_some : (most left : ℕ) (a b : Taker) (Behind : Cut → Type 0) → left ≤ most → TakesOne left a b Behind → TookSome most a
+takes_some most left a b Behind few one = record {
+  some = omega (arith, few, one.some);
+  wants = one.wants;
+  front = λ e. absurd (let never : one.item ∷ one.rest ≡ [] = sym one.front ∙ e in cc);
+}
+
 -- what was taken up to now
 pub record TakesOn (most : ℕ) (first : SideRun) (left : ℕ) (it : SideRun) (took : Bool) : Type 0 where
   pub ready : IsReady it
   pub side : it.peer.side ≡ first.peer.side
   pub up : is_up it ≡ is_up first
   pub onward : Onward most (taker_of first) left (taker_of it)
+  pub few : left ≤ most
   pub none : took ≡ false → taker_of it ≡ taker_of first
+  pub some : took ≡ true → TookSome most (taker_of first)
 
 pub takes_first : (most : ℕ) (it : SideRun) → IsReady it → TakesOn most it most it false
-takes_first most it h = record { ready = h; side = refl; up = refl; onward = λ c stop all. all; none = λ e. refl }
+takes_first most it h = record {
+  ready = h;
+  side = refl;
+  up = refl;
+  onward = λ c stop all. all;
+  few = omega arith;
+  none = λ e. refl;
+  some = λ e. absurd (let never : false ≡ true = e in cc);
+}
 
 pub takes_more : (most : ℕ) (first : SideRun) (left : ℕ) (it : SideRun) (took : Bool) (cost : ℕ) (next : SideRun) → TakesOn most first left it took → TakesNext left (taker_of it) (taker_of next) (Ok (Some cost)) → Stays it next
     → TakesOn most first (left - cost) next true
@@ -95,5 +113,13 @@ takes_more most first left it took cost next on one stays = record {
   side = stays.side ∙ on.side;
   up = stays.up ∙ on.up;
   onward = λ c stop all. on.onward c stop (one_more left (taker_of it) (taker_of next) c stop cost one all);
+  few = omega (arith, on.few);
   none = λ e. absurd (let never : true ≡ false = e in cc);
+  some = λ e. by_took took refl;
 }
+  where
+    now : TookSome most (taker_of it)
+    now = takes_some most left (taker_of it) (taker_of next) (λ (cut : Cut). (cost ≡ cut.cost) × Works false (fed cut.item (taker_of it).side) (taker_of next).side) on.few one
+    by_took : (b : Bool) → took ≡ b → TookSome most (taker_of first)
+    by_took true e = on.some e
+    by_took false e = subst (λ (taker : Taker). TookSome most taker) (on.none e) now

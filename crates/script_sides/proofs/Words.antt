@@ -1,20 +1,19 @@
 -- How many words of copies are left to be loaded, where one copy at a time is out.
-use Rattle.std.proofs.Common.{◌≡◌, ◌≢◌, ℕ, zero, suc, ◌+◌, ◌-◌, ◌*◌, ◌<◌, ◌≤◌, List, [], ◌∷◌, ◌++◌, map, length, min, ℤ, Bool, true, false, ◌&&◌, cond, Option, Some, None, refl, sym, ap, subst, ◌∙◌, arith, if◌then◌else◌}
+use Rattle.std.proofs.Common.{◌≡◌, ℕ, suc, ◌+◌, ◌-◌, ◌*◌, ◌<◌, ◌≤◌, List, [], ◌∷◌, ◌++◌, map, length, min, ℤ, Bool, true, false, ◌&&◌, cond, Option, Some, None, refl, sym, ap, subst, ◌∙◌, arith, if◌then◌else◌}
 use Rattle.std.proofs.Math.Dec.{ltb}
-use Rattle.std.proofs.lemmas.Bool.{cond_both, ltb-true, true≢false, false≢true}
+use Rattle.std.proofs.lemmas.Bool.{cond_both, ltb-true}
 use Rattle.std.proofs.lemmas.List.Sums.{sum_by-cons, sum_by-append}
 use Rattle.std.proofs.lemmas.List.Folds.{list_all-append}
 use Rattle.std.specs.List.{AllByRecursion}
-use Rattle.std.specs.Prelude.{sum, sum_by, find, take}
+use Rattle.std.specs.Prelude.{sum, sum_by, take}
 use Rattle.block_intervals.specs.declared.run.Run.{Run}
 use Rattle.half_model.specs.Filling.{Part, part_in, parts_from, parts_of_piece, parts_of}
 use Rattle.half_model.specs.Group.{Owed}
-use Rattle.half_model.specs.Jobs.{Job, JobState, Waits, IsOut, IsBack, Done, waits, is_out, is_back, first_waiting, is_done, awaits, handed, all_back}
-use Rattle.half_model.specs.TurnLaws.{JobsOf}
-use Rattle.pair_runs.specs.Sides.{SideState, awaited, loaded_by, loaded_in, words_in, side_seen, words_left}
+use Rattle.half_model.specs.Jobs.{Job, JobState, Waits, IsOut, IsBack, Done, is_out, is_back, is_done, handed, all_back}
+use Rattle.pair_runs.specs.Sides.{awaited, loaded_by, loaded_in, words_in, side_seen}
 use Rattle.pool_words.specs.declared.views.Sight.{Sight}
-use Rattle.pool_words.specs.Views.{EyeState, sight, sights}
-use Rattle.receipt_laws.specs.Lending.{IsIn, sent_out, OneOut, CopiesAre}
+use Rattle.pool_words.specs.Views.{sight, sights}
+use Rattle.receipt_laws.specs.Lending.{IsIn, sent_out, CopiesAre}
 use Rattle.receipt_laws.proofs.Jobs.{is_not_done, one_back, some_out}
 use Rattle.side_model.proofs.Sounds.{all_append}
 use Rattle.side_model.specs.Follows.{JobsFollow}
@@ -128,9 +127,15 @@ all_lack half (job ∷ jobs) h k = (λ d. in_lacks half job.part.count job.state
 pub out_loaded : (half more : ℕ) (job : Job) (before after : List Job) → AllByRecursion IsIn before → AllByRecursion IsIn after
     → sum_by (loaded_in (half + more)) (before ++ sent_out job ∷ after) ≡ sum_by (loaded_in half) (before ++ sent_out job ∷ after) + more
 out_loaded half more job before after h k =
-    omega (arith, sum_by-append (loaded_in (half + more)) before (sent_out job ∷ after), sum_by-append (loaded_in half) before (sent_out job ∷ after),
-    sum_by-cons (loaded_in (half + more)) (sent_out job) after, sum_by-cons (loaded_in half) (sent_out job) after,
-    in_loaded (half + more) half before h, in_loaded (half + more) half after k)
+    omega (
+      arith,
+      sum_by-append (loaded_in (half + more)) before (sent_out job ∷ after),
+      sum_by-append (loaded_in half) before (sent_out job ∷ after),
+      sum_by-cons (loaded_in (half + more)) (sent_out job) after,
+      sum_by-cons (loaded_in half) (sent_out job) after,
+      in_loaded (half + more) half before h,
+      in_loaded (half + more) half after k,
+    )
 
 pub out_fair : (half : ℕ) (job : Job) (before after : List Job) → half ≤ job.part.count → AllByRecursion IsIn before → AllByRecursion IsIn after → AllByRecursion (Fair half) (before ++ sent_out job ∷ after)
 out_fair half job before after l h k = all_append (Fair half) before (sent_out job ∷ after) (all_fair half before h) (l, all_fair half after k)
@@ -179,6 +184,10 @@ front_of [] back = refl
 front_of (x ∷ out) back = ap (λ (it : List ℕ). x ∷ it) (front_of out back)
 
 pub sights_rows : (i : ℕ) (front out back : List ℕ) → sights i (take (length front + length out) (front ++ (out ++ back))) ≡ sights i front ++ sights (i + length front) out
-sights_rows i [] out back = ap (sights i) (front_of out back) ∙ ap (λ (n : ℕ). sights n out) (omega arith)
+sights_rows i [] out back =
+    let none : length {A = ℕ} [] + length out ≡ length out = omega arith in
+    ap (λ (n : ℕ). sights i (take n (out ++ back))) none ∙ ap (sights i) (front_of out back) ∙ ap (λ (n : ℕ). sights n out) (omega arith)
 sights_rows i (x ∷ front) out back =
-    ap (λ (it : List Sight). sight i x ∷ it) (sights_rows (i + 1) front out back ∙ ap (λ (n : ℕ). sights (i + 1) front ++ sights n out) (omega arith))
+    let more : length (x ∷ front) + length out ≡ suc (length front + length out) = omega arith in
+    ap (λ (n : ℕ). sights i (take n (x ∷ (front ++ (out ++ back))))) more
+    ∙ ap (λ (it : List Sight). sight i x ∷ it) (sights_rows (i + 1) front out back ∙ ap (λ (n : ℕ). sights (i + 1) front ++ sights n out) (omega arith))

@@ -1,5 +1,5 @@
 -- What it comes to that a side is fed one item of its peer's wire; this project's own.
-use Rattle.std.specs.Prelude.{◌≡◌, ◌≢◌, ◌<◌, ℕ, true, false, List, ◌∷◌, Option, Some, None, Result}
+use Rattle.std.specs.Prelude.{◌≡◌, ◌≢◌, ◌<◌, ℕ, true, false, List, [], ◌∷◌, Option, Some, None, Result}
 use Rattle.std.specs.Prelude.{Ok, Err}
 use Rattle.half_model.specs.declared.items.PeerIn.{PeerIn}
 use Rattle.pair_runs.specs.Sides.{SideState, fed, wants}
@@ -34,3 +34,9 @@ TakesNext most a b (Ok (Some cost)) =
     TakesOne most a b (λ it. (cost ≡ it.cost) × Works false (fed it.item a.side) b.side)
 TakesNext most a b (Err fault) =
     fault ≢ Memory → TakesOne most a b (λ it. WorksInPart (fed it.item a.side) b.side)
+
+-- an item may be taken
+pub record TookSome (most : ℕ) (a : Taker) : Type 0 where
+  pub some : 0 < most
+  pub wants : wants a.side ≡ true
+  pub front : a.wire ≢ []

@@ -7,7 +7,7 @@ ghost use Rattle.receipt_laws.specs.Owning.{PutIsOwn};
 ghost use Rattle.script_sides.specs.Answering.{Answers, Leaves};
 ghost use Rattle.script_sides.specs.Ready.{IsReady, OwnOf};
 ghost use Rattle.script_sides.specs.Sided.{state_of, taker_of};
-ghost use Rattle.script_sides.specs.Takings.{Feeds, TakesNext};
+ghost use Rattle.script_sides.specs.Takings.{Feeds, TakesNext, TookSome};
 ghost use Rattle.side_model.specs.Sound.{IsItem};
 
 use super::ScriptSide;
@@ -24,6 +24,7 @@ impl ScriptSide {
         requires { IsReady self.old }
         ensures takes { Answers result (TakesAll most (taker_of self.old) (taker_of self.new)) }
         ensures none { result ≡ Ok false → taker_of self.new ≡ taker_of self.old }
+        ensures some { result ≡ Ok true → TookSome most (taker_of self.old) }
         ensures leaves { Leaves result self.old self.new }
     {
         let mut left = most;

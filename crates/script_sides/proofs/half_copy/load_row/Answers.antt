@@ -12,7 +12,7 @@ returns-clause-eye c =
     let back : List ℕ = c.split_at_mut-next.result.1.now in
     let is : front ≡ take c.args.from c.args.words.now = search in
     let long : length front ≡ c.args.from = search in
-    let many : length out ≡ c.args.count = search in
+    let many : length out ≡ c.args.count = omega (arith, c.load.auto.out, c.split_at_mut-next.ensures.front_len) in
     let row : sights c.args.first (take (c.args.from + c.args.count) (front ++ (out ++ back))) ≡ sights c.args.first (take c.args.from c.args.words.now) ++ sights (c.args.first + c.args.from) out =
     ap (λ (n : ℕ). sights c.args.first (take n (front ++ (out ++ back)))) (omega (arith, long, many))
     ∙ sights_rows c.args.first front out back

@@ -11,18 +11,18 @@ returns-clause-lines c =
     let it : SideRun = record { trail = c.self.inside.trail; peer = c.self.inside.peer; half = c.self.inside.half; asked = c.self.inside.asked } in
     let h : IsReady it = subst (λ (x : SideRun). IsReady x) (sym c.self.view_is) c.requires.ready in
     let down : is_up it ≡ false = ap is_up c.self.view_is ∙ c.requires.down in
-    subst (λ (x : SideRun). LinesUp c.args.connection (state_of x) (state_of (with_trail c.link_up-answer.new.self it)) c.link_up-answer.result) c.self.view_is (up_lines it c.link_up-answer.new.self c.args.connection c.link_up-answer.result h down c.link_up-answer.ensures)
+    subst (λ (x : SideRun). LinesUp c.args.connection (state_of x) (state_of (with_trail c.link_up-answer.new.self it)) c.link_up-answer.result) c.self.view_is (up_lines it c.link_up-answer.new.self c.args.connection c.link_up-answer.result h down c.link_up-answer.ensures.calls)
 
 pub returns-clause-limits : goal.returns-clause-limits
 returns-clause-limits c =
     let it : SideRun = record { trail = c.self.inside.trail; peer = c.self.inside.peer; half = c.self.inside.half; asked = c.self.inside.asked } in
     let h : IsReady it = subst (λ (x : SideRun). IsReady x) (sym c.self.view_is) c.requires.ready in
     let down : is_up it ≡ false = ap is_up c.self.view_is ∙ c.requires.down in
-    up_limited it c.link_up-answer.new.self c.args.connection c.link_up-answer.result h down c.link_up-answer.ensures
+    up_limited it c.link_up-answer.new.self c.args.connection c.link_up-answer.result h down c.link_up-answer.ensures.calls
 
 pub returns-clause-leaves : goal.returns-clause-leaves
 returns-clause-leaves c =
     let it : SideRun = record { trail = c.self.inside.trail; peer = c.self.inside.peer; half = c.self.inside.half; asked = c.self.inside.asked } in
     let h : IsReady it = subst (λ (x : SideRun). IsReady x) (sym c.self.view_is) c.requires.ready in
     let down : is_up it ≡ false = ap is_up c.self.view_is ∙ c.requires.down in
-    subst (λ (x : SideRun). LeavesUp c.link_up-answer.result x (with_trail c.link_up-answer.new.self it)) c.self.view_is (up_leaves it c.link_up-answer.new.self c.args.connection c.link_up-answer.result h down c.stands.ensures c.link_up-answer.ensures)
+    subst (λ (x : SideRun). LeavesUp c.link_up-answer.result x (with_trail c.link_up-answer.new.self it)) c.self.view_is (up_leaves it c.link_up-answer.new.self c.args.connection c.link_up-answer.result h down c.stands.ensures c.link_up-answer.ensures.calls)
