@@ -1,6 +1,6 @@
 //! The moves of the link.
 
-ghost use Rattle.std.specs.Prelude.{◌≡◌, ℕ, ◌<◌, [], ◌∷◌, length};
+ghost use Rattle.std.specs.Prelude.{◌≡◌, ℕ, ◌<◌, false, [], ◌∷◌, length};
 ghost use Rattle.pair_runs.specs.Moves.{Connect, ConnectIfHeld, Break, Push, Pull, Spoil};
 ghost use Rattle.script_replay.specs.Going.{IfStops, Goes};
 ghost use Rattle.script_replay.specs.Standing.{IsReady};
