@@ -1,15 +1,15 @@
 -- The pieces that a side reads one behind the other are one.
-use Rattle.std.proofs.Common.{◌≡◌, ◌≢◌, ℕ, ◌+◌, ◌-◌, ◌<◌, ◌≤◌, min, List, [], ◌∷◌, ◌++◌, take, drop, length, true, Option, Some, None, refl, sym, ap, subst, ◌∙◌, arith, append_assoc, length-append, length-drop, inl, inr, ◌⊎◌}
+use Rattle.std.proofs.Common.{◌≡◌, ◌≢◌, ℕ, ◌+◌, ◌-◌, ◌<◌, ◌≤◌, List, [], ◌∷◌, ◌++◌, take, drop, length, true, Some, None, refl, sym, ap, subst, ◌∙◌, arith, append_assoc, length-drop, inl, inr, ◌⊎◌}
 use Rattle.std.proofs.Math.Seq.{take-add}
 use Rattle.std.proofs.lemmas.List.{append-nil, drop-drop, take_all, length-take-le, length-take, take-take}
 use Rattle.wp_outside.specs.declared.kinds.Direction.{Direction}
 use Rattle.wp_outside.specs.declared.kinds.Direction.TheVariants.{Up, Down}
-use Rattle.wp_outside.specs.Lines.{Line, lane_of, pulled_from, Became}
+use Rattle.wp_outside.specs.Lines.{Line, pulled_from, Became}
 use Rattle.side_model.specs.Sound.{MOST_PIECE}
 use Rattle.side_model.specs.declared.fault.ProxyFault.{ProxyFault}
 use Rattle.pair_model.specs.Lines as model
 use Rattle.pair_model.specs.Steps.{on_last, with_read}
-use Rattle.pair_runs.specs.Linking.{read, Reads, ReadsInPart, RefusesPiece}
+use Rattle.pair_runs.specs.Linking.{read, Reads, ReadsInPart}
 use Rattle.pair_runs.specs.Sides.{SideState, rows_of, on_rows}
 use Rattle.pair_runs.specs.WorkLaws.{FailsInPart}
 use Rattle.pair_runs.specs.Working.{Works, WorksInPart}

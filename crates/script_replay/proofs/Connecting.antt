@@ -1,5 +1,5 @@
 -- A connection that is made, ends or has a byte replaced, as a move of the run.
-use Rattle.std.proofs.Common.{◌≡◌, ◌≢◌, ℕ, suc, ◌+◌, ◌<◌, ◌≤◌, max, nat_lt, Bool, true, false, is_none, ◌&&◌, ◌||◌, List, [], ◌∷◌, ◌++◌, length, slice_set, Option, Some, None, option_map, Result, Ok, Err, refl, sym, ap, subst, ◌∙◌, arith, inl, inr, if◌then◌else◌}
+use Rattle.std.proofs.Common.{◌≡◌, ℕ, suc, ◌+◌, ◌<◌, ◌≤◌, nat_lt, Bool, true, false, is_none, ◌&&◌, ◌||◌, List, [], ◌∷◌, ◌++◌, length, slice_set, Option, Some, None, option_map, Result, Ok, Err, refl, sym, ap, subst, ◌∙◌, arith, inl, inr, if◌then◌else◌}
 use Rattle.std.proofs.lemmas.Bool.{lt-ltb, le-ltb, ltb-true, ltb-false}
 use Rattle.std.specs.Prelude.{IsTrue, ◌↔◌}
 use Rattle.std.specs.Bool.{MatchBool}
@@ -30,7 +30,7 @@ use Rattle.script_sides.specs.Sided as sided
 use Rattle.script_sides.specs.Sided.{SideRun}
 use Rattle.script_replay.specs.Going.{fault_in, IfStops, Went, Goes}
 use Rattle.script_replay.specs.Standing.{ReadyAt, IsReadyAside, IsReady, state_of, line_at}
-use Rattle.script_replay.specs.Telling.{lanes_of, TellsLine, Tells}
+use Rattle.script_replay.specs.Telling.{lanes_of, TellsLine}
 use Rattle.script_replay.specs.declared.failures.Stop.{Stop}
 use Rattle.script_replay.specs.declared.failures.Stop.TheVariants as stops
 use Rattle.script_replay.specs.declared.run.Run.{Run}

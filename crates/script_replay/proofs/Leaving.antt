@@ -1,14 +1,13 @@
 -- The pieces that a side sends one behind the other are one.
-use Rattle.std.proofs.Common.{◌≡◌, ◌≢◌, ℕ, ◌+◌, ◌-◌, ◌<◌, ◌≤◌, min, true, List, [], ◌∷◌, ◌++◌, take, length, Option, Some, None, refl, sym, ap, subst, ◌∙◌, arith, append_assoc, length-append, inl, inr}
+use Rattle.std.proofs.Common.{◌≡◌, ◌≢◌, ℕ, ◌+◌, ◌-◌, ◌<◌, ◌≤◌, min, List, [], ◌∷◌, ◌++◌, take, length, Some, None, refl, sym, ap, subst, ◌∙◌, arith, append_assoc, length-append, inl, inr}
 use Rattle.std.proofs.lemmas.List.{append-nil, length-take}
 use Rattle.wp_outside.specs.declared.kinds.Direction.{Direction}
 use Rattle.wp_outside.specs.declared.kinds.Direction.TheVariants.{Up, Down}
 use Rattle.wp_outside.specs.Lines.{Line, pushed_onto, Became}
 use Rattle.side_model.specs.declared.fault.ProxyFault.{ProxyFault}
-use Rattle.side_model.specs.declared.fault.ProxyFault.TheVariants.{Memory}
 use Rattle.pair_model.specs.Lines as model
 use Rattle.pair_model.specs.Steps.{on_last, with_written}
-use Rattle.pair_runs.specs.Linking.{Writes, written}
+use Rattle.pair_runs.specs.Linking.{written}
 use Rattle.pair_runs.specs.Sides.{SideState, rows_of}
 use Rattle.pair_runs.proofs.More.{writes_more}
 use Rattle.pair_runs.proofs.Weights.{written_none}

@@ -1,5 +1,4 @@
-use Rattle.std.proofs.Common.{◌≡◌, ◌<◌, take, ◌∙◌, arith}
-use Rattle.script_replay.specs.Coming.{waiting_on}
+use Rattle.std.proofs.Common.{◌<◌, ◌∙◌, arith}
 use Rattle.script_replay.proofs.Arriving.{reads_some, reads_badly}
 use Rattle.script_replay.proofs.coming.pull_piece.Goals as goal
 

@@ -1,8 +1,7 @@
-use Rattle.std.proofs.Common.{◌≡◌, true, [], ◌∷◌, Option, Some, None, refl, sym, subst}
+use Rattle.std.proofs.Common.{[], ◌∷◌, Some, None, sym, subst}
 use Rattle.wp_outside.specs.declared.kinds.Direction.{Direction}
 use Rattle.wp_outside.specs.declared.kinds.Side.TheVariants.{Near, Far}
 use Rattle.pair_runs.specs.Moves.{Push}
-use Rattle.pair_runs.specs.States.{Fault}
 use Rattle.script_replay.specs.Going.{Goes}
 use Rattle.script_replay.specs.Sending.{Sends}
 use Rattle.script_replay.specs.declared.run.Run.{Run}
