@@ -15,8 +15,8 @@ returns-then-holds-2 g c =
     let near : Bool = holds (sided.state_of old.near) in
     let far : Bool = holds (sided.state_of old.far) in
     let held : (near || far) ≡ true = elim c.if-holds.branch [
-      then-holds w ↦ ap (λ (it : Bool). it || far) (sym c.holds.ensures ∙ w.if-holds.true)
-    | else-holds w ↦ ap (λ (it : Bool). it || far) (sym c.holds.ensures ∙ w.if-holds.false) ∙ sym w.holds-else-holds.ensures ∙ sym w.value-is ∙ c.if-holds-2.true
+      | then-holds w ↦ ap (λ (it : Bool). it || far) (sym c.holds.ensures ∙ w.if-holds.true)
+      | else-holds w ↦ ap (λ (it : Bool). it || far) (sym c.holds.ensures ∙ w.if-holds.false) ∙ sym w.holds-else-holds.ensures ∙ sym w.value-is ∙ c.if-holds-2.true
     ] in
     stops_map Unit c.connect.result (Goes (Connect ∷ []) old c.connect.new.self before after) (Goes (ConnectIfHeld ∷ []) old c.connect.new.self before after) (λ stop goes. held_connects old c.connect.new.self before after stop held goes) c.connect.ensures
 
@@ -26,7 +26,7 @@ returns-else-holds-2 g c = λ ready.
     let near : Bool = holds (sided.state_of old.near) in
     let far : Bool = holds (sided.state_of old.far) in
     let none : (near || far) ≡ false = elim c.if-holds.branch [
-      then-holds w ↦ absurd (let never : true ≡ false = sym w.if-holds.true ∙ sym w.value-is ∙ c.if-holds-2.false in cc)
-    | else-holds w ↦ ap (λ (it : Bool). it || far) (sym c.holds.ensures ∙ w.if-holds.false) ∙ sym w.holds-else-holds.ensures ∙ sym w.value-is ∙ c.if-holds-2.false
+      | then-holds w ↦ absurd (let never : true ≡ false = sym w.if-holds.true ∙ sym w.value-is ∙ c.if-holds-2.false in cc)
+      | else-holds w ↦ ap (λ (it : Bool). it || far) (sym c.holds.ensures ∙ w.if-holds.false) ∙ sym w.holds-else-holds.ensures ∙ sym w.value-is ∙ c.if-holds-2.false
     ] in
     not_held c.ready_goes_on.ensures old (g.L.LinkStore.line c.args.line.now) none ready
