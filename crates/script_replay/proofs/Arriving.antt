@@ -1,23 +1,27 @@
 -- The pieces that a side reads one behind the other are one.
-use Rattle.std.proofs.Common.{◌≡◌, ◌≢◌, ℕ, ◌+◌, ◌-◌, ◌<◌, ◌≤◌, min, List, [], ◌∷◌, ◌++◌, take, drop, length, true, Option, Some, None, refl, sym, ap, subst, ◌∙◌, arith, append_assoc, length-append, length-drop, inl, inr, ◌⊎◌}
+use Rattle.std.proofs.Common.{◌≡◌, ◌≢◌, ℕ, ◌+◌, ◌-◌, ◌<◌, ◌≤◌, List, [], ◌∷◌, ◌++◌, take, drop, length, true, Some, None, refl, sym, ap, subst, ◌∙◌, arith, append_assoc, length-drop, inl, inr, ◌⊎◌}
 use Rattle.std.proofs.Math.Seq.{take-add}
 use Rattle.std.proofs.lemmas.List.{append-nil, drop-drop, take_all, length-take-le, length-take, take-take}
 use Rattle.wp_outside.specs.declared.kinds.Direction.{Direction}
 use Rattle.wp_outside.specs.declared.kinds.Direction.TheVariants.{Up, Down}
-use Rattle.wp_outside.specs.Lines.{Line, lane_of, pulled_from, Became}
+use Rattle.wp_outside.specs.Lines.{Line, pulled_from, Became}
 use Rattle.side_model.specs.Sound.{MOST_PIECE}
 use Rattle.side_model.specs.declared.fault.ProxyFault.{ProxyFault}
 use Rattle.pair_model.specs.Lines as model
 use Rattle.pair_model.specs.Steps.{on_last, with_read}
-use Rattle.pair_runs.specs.Linking.{read, Reads, ReadsInPart, RefusesPiece}
+use Rattle.pair_runs.specs.Linking.{read, Reads, ReadsInPart}
 use Rattle.pair_runs.specs.Sides.{SideState, rows_of, on_rows}
 use Rattle.pair_runs.specs.WorkLaws.{FailsInPart}
 use Rattle.pair_runs.specs.Working.{Works, WorksInPart}
+use Rattle.pair_runs.specs.Kept.{HasFailed}
 use Rattle.pair_runs.proofs.More.{reads_more, part_more}
+use Rattle.pair_runs.proofs.Tying.{works_rows}
+use Rattle.script_sides.specs.Answering.{Stays, Stops}
 use Rattle.script_sides.specs.Sided.{SideRun, state_of}
+use Rattle.wp_outside.specs.declared.kinds.Side.{Side}
 use Rattle.script_replay.specs.Coming.{waiting_on, size_of, ReadsSome, ReadsBadly, Came}
 use Rattle.script_replay.specs.Sending.{RunsUp, LeavesPeer}
-use Rattle.script_replay.proofs.Leaving.{became_twice, leaves_twice}
+use Rattle.script_replay.proofs.Leaving.{became_twice, leaves_twice, runs_still}
 
 -- ---- a lane
 
@@ -64,6 +68,39 @@ part_behind (byte ∷ got) a b c h k = part_more.works (read (byte ∷ got) a) b
 part_with : (got piece : List ℕ) (a b c : SideState) → Reads got a b → WorksInPart (read piece b) c → WorksInPart (read (got ++ piece) a) c
 part_with [] piece a b c h k = subst (λ (it : SideState). WorksInPart (read piece it) c) h k
 part_with (byte ∷ got) piece a b c h k = part_more.reads (byte ∷ got) piece a b c h.1 k
+
+-- ---- a piece
+
+reads_by : (piece : List ℕ) (a b : SideState) → 0 < length piece → rows_of a ≢ [] → Works true (read piece a) b → Reads piece a b
+reads_by [] a b l some works = absurd (omega (arith, l))
+reads_by (byte ∷ piece) a b l some works = (some, works)
+
+long_piece : (connection most count : ℕ) (dir : Direction) (before : ℕ → Line) (piece : List ℕ) → count ≡ size_of most (waiting_on dir connection before) → piece ≡ take count (waiting_on dir connection before) → length piece ≡ count
+long_piece connection most count dir before piece size e = ap length e ∙ length-take-le count (waiting_on dir connection before) (omega (arith, size))
+
+-- a piece is read
+pub reads_some : (connection most count : ℕ) (dir : Direction) (old new : SideRun) (before after : ℕ → Line) (piece : List ℕ) → RunsUp old → 0 < count → count ≡ size_of most (waiting_on dir connection before) → Became before after connection (pulled_from dir count)
+    → piece ≡ take count (waiting_on dir connection before) → Works true (read piece (state_of old)) (state_of new) → Stays old new → new.peer.wire ≡ old.peer.wire → ReadsSome count most connection dir old new before after
+reads_some connection most count dir old new before after piece up some size change e works stays wire = record {
+  size = size;
+  change = change;
+  reads = subst (λ (bytes : List ℕ). Reads bytes (state_of old) (state_of new)) e
+      (reads_by piece (state_of old) (state_of new) (omega (arith, some, long_piece connection most count dir before piece size e)) up.some works);
+  stays = runs_still old new (with_read piece) up stays.ready stays.up (works_rows true (read piece (state_of old)) (state_of new) works);
+  peer = record { side_is = stays.side; wire = wire };
+}
+
+-- or the side meets a fault with it
+pub reads_badly : (connection most count : ℕ) (dir : Direction) (fault : ProxyFault) (old new : SideRun) (before after : ℕ → Line) (piece : List ℕ) → count ≡ size_of most (waiting_on dir connection before) → Became before after connection (pulled_from dir count)
+    → piece ≡ take count (waiting_on dir connection before) → FailsInPart fault (state_of old) (read piece (state_of old)) (state_of new) → Stops old new fault → new.peer.wire ≡ old.peer.wire → ReadsBadly fault most connection dir old new before after
+reads_badly connection most count dir fault old new before after piece size change e part stops wire = record {
+  count = count;
+  size = size;
+  change = change;
+  part = subst (λ (bytes : List ℕ). FailsInPart fault (state_of old) (read bytes (state_of old)) (state_of new)) e part;
+  failed = subst (λ (side : Side). HasFailed side (state_of new) fault) (sym stops.side) stops.failed;
+  peer = record { side_is = stops.side; wire = wire };
+}
 
 -- ---- the pieces so far
 
@@ -202,3 +239,43 @@ come_part connection count most dir fault first old new before middle after few 
       because = λ some. absurd (some refl);
       part = part_with got piece (state_of first) (state_of old) (state_of new) so_far.reads done;
     }
+
+-- ---- the loop
+
+-- so many bytes are left to be read
+pub record ComesOn (most left connection : ℕ) (dir : Direction) (first now : SideRun) (before after : ℕ → Line) : Type 0 where
+  pub few : left ≤ most
+  pub so_far : ReadSoFar connection dir first now before after (most - left)
+
+pub comes_first : (most connection : ℕ) (dir : Direction) (first : SideRun) (line : ℕ → Line) → RunsUp first → ComesOn most most connection dir first first line line
+comes_first most connection dir first line runs = record {
+  few = omega arith;
+  so_far = let none : 0 ≡ most - most = omega arith in subst (λ (n : ℕ). ReadSoFar connection dir first first line line n) none (come_none connection dir first line runs);
+}
+
+few_read : (most : ℕ) (waiting : List ℕ) (count : ℕ) → count ≡ size_of most waiting → count ≤ most
+few_read most waiting count size = omega (arith, size)
+
+pub comes_more : (most left more connection : ℕ) (dir : Direction) (first old new : SideRun) (before middle after : ℕ → Line) → ComesOn most left connection dir first old before middle → ReadsSome more left connection dir old new middle after
+    → ComesOn most (left - more) connection dir first new before after
+comes_more most left more connection dir first old new before middle after on piece = record {
+  few = omega (arith, on.few);
+  so_far =
+      let sum : (most - left) + more ≡ most - (left - more) = omega (arith, on.few, few_read left (waiting_on dir connection middle) more piece.size) in
+      subst (λ (n : ℕ). ReadSoFar connection dir first new before after n) sum (come_more connection (most - left) left more dir first old new before middle after on.so_far piece);
+}
+
+pub comes_all : (most left connection : ℕ) (dir : Direction) (first now : SideRun) (before after : ℕ → Line) → left ≡ 0 → ComesOn most left connection dir first now before after → Came most connection dir first now before after None
+comes_all most left connection dir first now before after none on = come_all connection (most - left) most dir first now before after (omega arith) (inl (omega (arith, none))) on.so_far
+
+pub comes_out : (most left more connection : ℕ) (dir : Direction) (first old new : SideRun) (before middle after : ℕ → Line) → 0 < left → more ≡ 0 → ComesOn most left connection dir first old before middle → ReadsSome more left connection dir old new middle after
+    → Came most connection dir first new before after None
+comes_out most left more connection dir first old new before middle after some none on piece =
+    let rest : left ≡ most - (most - left) = omega (arith, on.few) in
+    come_out connection (most - left) most more dir first old new before middle after (omega (arith, some, on.few)) none on.so_far (subst (λ (n : ℕ). ReadsSome more n connection dir old new middle after) rest piece)
+
+pub comes_part : (most left connection : ℕ) (dir : Direction) (fault : ProxyFault) (first old new : SideRun) (before middle after : ℕ → Line) → ComesOn most left connection dir first old before middle → ReadsBadly fault left connection dir old new middle after
+    → Came most connection dir first new before after (Some fault)
+comes_part most left connection dir fault first old new before middle after on bad =
+    let rest : left ≡ most - (most - left) = omega (arith, on.few) in
+    come_part connection (most - left) most dir fault first old new before middle after (omega arith) on.so_far (subst (λ (n : ℕ). ReadsBadly fault n connection dir old new middle after) rest bad)

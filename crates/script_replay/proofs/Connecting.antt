@@ -1,5 +1,5 @@
 -- A connection that is made, ends or has a byte replaced, as a move of the run.
-use Rattle.std.proofs.Common.{◌≡◌, ◌≢◌, ℕ, suc, ◌+◌, ◌<◌, ◌≤◌, max, nat_lt, Bool, true, false, is_none, ◌&&◌, ◌||◌, List, [], ◌∷◌, ◌++◌, length, slice_set, Option, Some, None, option_map, refl, sym, ap, subst, ◌∙◌, arith, inl, inr, if◌then◌else◌}
+use Rattle.std.proofs.Common.{◌≡◌, ℕ, suc, ◌+◌, ◌<◌, ◌≤◌, nat_lt, Bool, true, false, is_none, ◌&&◌, ◌||◌, List, [], ◌∷◌, ◌++◌, length, slice_set, Option, Some, None, option_map, Result, Ok, Err, refl, sym, ap, subst, ◌∙◌, arith, inl, inr, if◌then◌else◌}
 use Rattle.std.proofs.lemmas.Bool.{lt-ltb, le-ltb, ltb-true, ltb-false}
 use Rattle.std.specs.Prelude.{IsTrue, ◌↔◌}
 use Rattle.std.specs.Bool.{MatchBool}
@@ -28,9 +28,11 @@ use Rattle.script_sides.specs.Ready as sides
 use Rattle.script_sides.specs.Ready.{ReadyGoesOn}
 use Rattle.script_sides.specs.Sided as sided
 use Rattle.script_sides.specs.Sided.{SideRun}
-use Rattle.script_replay.specs.Going.{Went, Goes}
+use Rattle.script_replay.specs.Going.{fault_in, IfStops, Went, Goes}
 use Rattle.script_replay.specs.Standing.{ReadyAt, IsReadyAside, IsReady, state_of, line_at}
-use Rattle.script_replay.specs.Telling.{lanes_of, TellsLine, Tells}
+use Rattle.script_replay.specs.Telling.{lanes_of, TellsLine}
+use Rattle.script_replay.specs.declared.failures.Stop.{Stop}
+use Rattle.script_replay.specs.declared.failures.Stop.TheVariants as stops
 use Rattle.script_replay.specs.declared.run.Run.{Run}
 use Rattle.script_replay.proofs.Keeping.{goes_on, kept_aside, tells_same, tells_failed, one_move, one_fault}
 use Rattle.script_replay.proofs.Telling.{half_opened, with_new, with_same, opened_tells, cut_tells, spoiled_tells}
@@ -190,6 +192,12 @@ connect_again law old line up r = record {
   did = one_move Connect (state_of old line) (state_of old line) (record { changes = is_up old.up (line old.last) true (state_of old line) up; kept = kept_aside law old line r.aside });
   stays = r;
 }
+
+-- a fact of the fault that a call met, from another one
+pub stops_map : (X : Type 0) (result : Result X Stop) (P Q : Option Fault → Type 0) → ((stop : Option Fault) → P stop → Q stop) → IfStops result P → IfStops result Q
+stops_map X (Ok done) P Q f h = f None h
+stops_map X (Err (stops.Failed it)) P Q f h = f (Some (fault_in it)) h
+stops_map X (Err stops.Memory) P Q f h = tt
 
 -- a connection that is made where a frame is kept
 held_moves : (s t : State) (stop : Option Fault) → (holds s.near || holds s.far) ≡ true → MovesAll (Connect ∷ []) s t stop → MovesAll (ConnectIfHeld ∷ []) s t stop

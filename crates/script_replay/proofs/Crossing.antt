@@ -1,5 +1,5 @@
 -- Bytes that go onto the line and off it, as a move of the run.
-use Rattle.std.proofs.Common.{◌≡◌, ◌≢◌, ℕ, suc, ◌+◌, ◌<◌, ◌≤◌, min, Bool, true, false, List, [], ◌∷◌, ◌++◌, take, drop, length, Option, Some, None, option_map, refl, sym, ap, subst, ◌∙◌, arith, inl, inr}
+use Rattle.std.proofs.Common.{◌≡◌, ◌≢◌, ℕ, ◌<◌, Bool, true, false, List, [], ◌∷◌, ◌++◌, take, drop, length, Option, Some, None, option_map, refl, sym, ap, subst, ◌∙◌, arith}
 use Rattle.std.proofs.lemmas.List.{append-nil, length-take, take_min, take-take}
 use Rattle.wp_outside.specs.declared.kinds.Direction.{Direction}
 use Rattle.wp_outside.specs.declared.kinds.Direction.TheVariants.{Up, Down}
@@ -7,29 +7,27 @@ use Rattle.wp_outside.specs.declared.kinds.Side.{Side}
 use Rattle.wp_outside.specs.declared.kinds.Side.TheVariants.{Near, Far}
 use Rattle.wp_outside.specs.Lines as outside
 use Rattle.wp_outside.specs.Lines.{lane_of, pushed_onto, pulled_from, Became}
-use Rattle.half_model.specs.declared.items.PeerIn.{PeerIn}
 use Rattle.pair_model.specs.Lines.{Line, Rising}
 use Rattle.pair_model.specs.Steps.{on_last, with_written, with_read}
 use Rattle.side_model.specs.declared.fault.ProxyFault.{ProxyFault}
-use Rattle.pair_runs.specs.Kept.{Kept, KeptAt, GoesOn, HasFailed}
-use Rattle.pair_runs.specs.Linking.{written, read, Writes, WritesInPart, Reads, ReadsInPart, RefusesPiece}
-use Rattle.pair_runs.specs.Moves.{Push, Pull, MovesAll, Moves, Changes, PushedOn, PulledOff, PulledBy, WritesBy, at_side}
+use Rattle.pair_runs.specs.Kept.{KeptAt, HasFailed}
+use Rattle.pair_runs.specs.Linking.{written, read, Reads, ReadsInPart}
+use Rattle.pair_runs.specs.Moves.{Push, Pull, MovesAll, PushedOn, PulledOff, PulledBy, WritesBy, at_side}
 use Rattle.pair_runs.specs.Sides.{SideState, rows_of, last_number}
-use Rattle.pair_runs.specs.States.{State, Fault, Lanes, lane_at, with_lane, on_lane, side_at, with_side, writer, reader, connections}
-use Rattle.pair_runs.specs.Working.{Works, WorksInPart}
+use Rattle.pair_runs.specs.States.{State, Lanes, lane_at, with_lane, on_lane, side_at, with_side, writer, reader, connections}
 use Rattle.pair_runs.proofs.Lines.{HasLast, has_last, last_changed}
 use Rattle.pair_runs.proofs.Tying.{works_rows, part_rows}
 use Rattle.script_sides.specs.Ready.{ReadyGoesOn}
 use Rattle.script_sides.specs.Sided as sided
 use Rattle.script_sides.specs.Sided.{SideRun}
-use Rattle.script_replay.specs.Coming.{waiting_on, Comes, Came}
+use Rattle.script_replay.specs.Coming.{Came}
 use Rattle.script_replay.specs.Going.{Went}
-use Rattle.script_replay.specs.Sending.{RunsUp, MaySend, LeavesPeer, StaysUp, Sends}
+use Rattle.script_replay.specs.Sending.{RunsUp, LeavesPeer, Sends}
 use Rattle.script_replay.specs.Standing.{ReadyAt, IsReadyAside, IsReady, state_of, line_at}
-use Rattle.script_replay.specs.Telling.{lanes_of, Tells, TellsBut, TellsFailed}
+use Rattle.script_replay.specs.Telling.{lanes_of, Tells, TellsBut}
 use Rattle.script_replay.specs.declared.run.Run.{Run}
 use Rattle.script_replay.proofs.Keeping.{goes_on, kept_aside, tells_same, tells_failed, one_move, one_fault}
-use Rattle.script_replay.proofs.Connecting.{state_is, line_down}
+use Rattle.script_replay.proofs.Connecting.{state_is}
 use Rattle.script_replay.proofs.Telling.{pushed_up, pushed_down, pulled_up, pulled_down, none_refused}
 use Rattle.script_replay.proofs.Arriving.{last_none}
 

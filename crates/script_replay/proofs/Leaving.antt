@@ -1,17 +1,21 @@
 -- The pieces that a side sends one behind the other are one.
-use Rattle.std.proofs.Common.{◌≡◌, ◌≢◌, ℕ, ◌+◌, ◌-◌, ◌≤◌, List, [], ◌++◌, length, Option, Some, None, refl, sym, ap, subst, ◌∙◌, arith, append_assoc, length-append, inl, inr}
-use Rattle.std.proofs.lemmas.List.{append-nil}
+use Rattle.std.proofs.Common.{◌≡◌, ◌≢◌, ℕ, ◌+◌, ◌-◌, ◌<◌, ◌≤◌, min, List, [], ◌∷◌, ◌++◌, take, length, Some, None, refl, sym, ap, subst, ◌∙◌, arith, append_assoc, length-append, inl, inr}
+use Rattle.std.proofs.lemmas.List.{append-nil, length-take}
 use Rattle.wp_outside.specs.declared.kinds.Direction.{Direction}
 use Rattle.wp_outside.specs.declared.kinds.Direction.TheVariants.{Up, Down}
 use Rattle.wp_outside.specs.Lines.{Line, pushed_onto, Became}
 use Rattle.side_model.specs.declared.fault.ProxyFault.{ProxyFault}
-use Rattle.side_model.specs.declared.fault.ProxyFault.TheVariants.{Memory}
-use Rattle.pair_runs.specs.Linking.{Writes, written}
+use Rattle.pair_model.specs.Lines as model
+use Rattle.pair_model.specs.Steps.{on_last, with_written}
+use Rattle.pair_runs.specs.Linking.{written}
 use Rattle.pair_runs.specs.Sides.{SideState, rows_of}
 use Rattle.pair_runs.proofs.More.{writes_more}
 use Rattle.pair_runs.proofs.Weights.{written_none}
+use Rattle.script_peers.specs.Peers.{ScriptedPeer}
+use Rattle.script_sides.specs.Answering.{Stays}
 use Rattle.script_sides.specs.Linked.{HasNoFront}
-use Rattle.script_sides.specs.Sided.{SideRun, state_of}
+use Rattle.script_sides.specs.Ready.{IsReady}
+use Rattle.script_sides.specs.Sided.{SideRun, state_of, is_up, lent_of}
 use Rattle.script_replay.specs.Sending.{MaySend, RunsUp, LeavesPeer, SendsSome, SendsNone, Sends}
 
 -- ---- a lane
@@ -41,6 +45,54 @@ became_twice before middle after c one other both e a b = record {
 
 pub leaves_twice : (old middle new : SideRun) → LeavesPeer old middle → LeavesPeer middle new → LeavesPeer old new
 leaves_twice old middle new a b = record { side_is = b.side_is ∙ a.side_is; wire = b.wire ∙ a.wire }
+
+-- ---- a piece
+
+some_still : (change : model.Line → model.Line) (rows : List model.Line) → rows ≢ [] → on_last change rows ≢ []
+some_still change [] some e = some refl
+some_still change (line ∷ []) some e = absurd cc
+some_still change (line ∷ next ∷ rows) some e = absurd cc
+
+-- a side goes on with its last connection
+pub runs_still : (old new : SideRun) (change : model.Line → model.Line) → RunsUp old → IsReady new → is_up new ≡ is_up old → rows_of (state_of new) ≡ on_last change (rows_of (state_of old)) → RunsUp new
+runs_still old new change up ready same rows = record {
+  ready = ready;
+  is_up = same ∙ up.is_up;
+  some = λ none. some_still change (rows_of (state_of old)) up.some (sym rows ∙ none);
+}
+
+still_up : (dir : Direction) (bytes : List ℕ) (line : Line) → (pushed_onto dir bytes line).is_up ≡ line.is_up
+still_up Up bytes line = refl
+still_up Down bytes line = refl
+
+no_bytes : (bytes : List ℕ) → length bytes ≡ 0 → bytes ≡ []
+no_bytes [] e = refl
+no_bytes (byte ∷ bytes) e = absurd (omega (arith, e))
+
+-- room is made for the front of a side, and its first bytes are pushed
+pub sends_some : (connection most count : ℕ) (dir : Direction) (old middle new : SideRun) (before after : ℕ → Line) → 0 < most → MaySend connection old before → state_of middle ≡ state_of old → Stays old middle → middle.peer ≡ old.peer
+    → count ≡ min (length (lent_of middle)) most → (lent_of middle ≡ [] → HasNoFront (state_of middle)) → state_of new ≡ written (take count (lent_of middle)) (state_of middle) → Stays middle new → new.peer ≡ middle.peer
+    → Became before after connection (pushed_onto dir (take count (lent_of middle))) → SendsSome count most connection dir old new before after
+sends_some connection most count dir old middle new before after some may same kept peer size front is stays beside change =
+    let bytes : List ℕ = take count (lent_of middle) in
+    let whole : state_of new ≡ written bytes (state_of old) = is ∙ ap (λ (it : SideState). written bytes it) same in
+    record {
+      bytes = bytes;
+      long = omega (arith, length-take count (lent_of middle), size);
+      few = omega (arith, size);
+      is = whole;
+      change = change;
+      stays = record {
+        side = runs_still old new (with_written bytes) may.side stays.ready (stays.up ∙ kept.up) (ap rows_of whole);
+        holds = ap (λ (it : Line). it.is_up) change.here ∙ still_up dir bytes (before connection) ∙ may.holds;
+      };
+      peer = record {
+        side_is = ap (λ (it : ScriptedPeer). it.side) (beside ∙ peer);
+        wire = ap (λ (it : ScriptedPeer). it.wire) (beside ∙ peer);
+      };
+      none = λ zero. subst (λ (it : SideState). HasNoFront it) (sym (is ∙ ap (λ (n : ℕ). written (take n (lent_of middle)) (state_of middle)) zero ∙ written_none (state_of middle)))
+          (front (no_bytes (lent_of middle) (omega (arith, zero, size, some))));
+    }
 
 -- ---- the pieces so far
 
@@ -116,3 +168,37 @@ sent_part connection count most dir fault first old new before middle after few 
   stays = none.failed;
   peer = leaves_twice first old new so_far.peer none.peer;
 }
+
+-- ---- the loop
+
+-- so many bytes are left to be sent
+pub record SendsOn (most left connection : ℕ) (dir : Direction) (first now : SideRun) (before after : ℕ → Line) : Type 0 where
+  pub few : left ≤ most
+  pub so_far : SentSoFar connection dir first now before after (most - left)
+
+pub sends_first : (most connection : ℕ) (dir : Direction) (first : SideRun) (line : ℕ → Line) → MaySend connection first line → SendsOn most most connection dir first first line line
+sends_first most connection dir first line may = record {
+  few = omega arith;
+  so_far = let none : 0 ≡ most - most = omega arith in subst (λ (n : ℕ). SentSoFar connection dir first first line line n) none (sent_none connection dir first line may);
+}
+
+pub sends_more : (most left more connection : ℕ) (dir : Direction) (first old new : SideRun) (before middle after : ℕ → Line) → SendsOn most left connection dir first old before middle → SendsSome more left connection dir old new middle after
+    → SendsOn most (left - more) connection dir first new before after
+sends_more most left more connection dir first old new before middle after on piece = record {
+  few = omega (arith, on.few);
+  so_far =
+      let sum : (most - left) + more ≡ most - (left - more) = omega (arith, on.few, piece.few) in
+      subst (λ (n : ℕ). SentSoFar connection dir first new before after n) sum (sent_more connection (most - left) left more dir first old new before middle after on.so_far piece);
+}
+
+pub sends_all : (most left connection : ℕ) (dir : Direction) (first now : SideRun) (before after : ℕ → Line) → MaySend connection first before → left ≡ 0 → SendsOn most left connection dir first now before after → Sends most connection dir first now before after None
+sends_all most left connection dir first now before after may none on = sent_all connection (most - left) most dir first now before after may (omega (arith, none)) on.so_far
+
+pub sends_out : (most left more connection : ℕ) (dir : Direction) (first old new : SideRun) (before middle after : ℕ → Line) → MaySend connection first before → more ≡ 0 → SendsOn most left connection dir first old before middle
+    → SendsSome more left connection dir old new middle after → Sends most connection dir first new before after None
+sends_out most left more connection dir first old new before middle after may none on piece =
+    let rest : left ≡ most - (most - left) = omega (arith, on.few) in
+    sent_out connection (most - left) most more dir first old new before middle after may (omega arith) none on.so_far (subst (λ (n : ℕ). SendsSome more n connection dir old new middle after) rest piece)
+
+pub sends_part : (most left connection : ℕ) (dir : Direction) (fault : ProxyFault) (first old new : SideRun) (before middle after : ℕ → Line) → SendsOn most left connection dir first old before middle → SendsNone fault old new middle after → Sends most connection dir first new before after (Some fault)
+sends_part most left connection dir fault first old new before middle after on none = sent_part connection (most - left) most dir fault first old new before middle after (omega arith) on.so_far none

@@ -25,7 +25,8 @@ pub(crate) fn pull_bytes<L: LinkStore>(
 ) -> Result<(), ProxyFault>
     requires sized { length room.old ≡ 65536 }
     requires ready { RunsUp side.old }
-    ensures { Answers result (Came most connection dir side.old side.new (L.line line.old) (L.line line.new)) }
+    ensures { Answers result (Came most connection dir
+        side.old side.new (L.line line.old) (L.line line.new)) }
 {
     let mut left = most;
     'pieces: while 0 < left {
@@ -58,7 +59,8 @@ fn pull_piece<L: LinkStore>(
     requires some { 0 < most }
     requires sized { length room.old ≡ 65536 }
     requires ready { RunsUp side.old }
-    ensures { ReadsPiece result most connection dir side.old side.new (L.line line.old) (L.line line.new) }
+    ensures { ReadsPiece result most connection dir
+        side.old side.new (L.line line.old) (L.line line.new) }
 {
     let count = pull_front(dir, most, connection, line, room);
     if count == 0 {
@@ -80,8 +82,10 @@ fn pull_front<L: LinkStore>(
 ) -> usize
     requires sized { length room.old ≡ 65536 }
     ensures size { result ≡ size_of most (waiting_on dir connection (L.line line.old)) }
-    ensures bytes { take result room.new ≡ take result (waiting_on dir connection (L.line line.old)) }
-    ensures change { Became (L.line line.old) (L.line line.new) connection (pulled_from dir result) }
+    ensures bytes { take result room.new ≡ take result
+        (waiting_on dir connection (L.line line.old)) }
+    ensures change { Became (L.line line.old) (L.line line.new)
+        connection (pulled_from dir result) }
 {
     let size = room.len().min(most);
     line.pull(connection, dir, &mut room[..size])

@@ -1,6 +1,6 @@
 //! The moves of the link.
 
-ghost use Rattle.std.specs.Prelude.{◌≡◌, ℕ, ◌<◌, [], ◌∷◌, length};
+ghost use Rattle.std.specs.Prelude.{◌≡◌, ℕ, ◌<◌, false, [], ◌∷◌, length};
 ghost use Rattle.pair_runs.specs.Moves.{Connect, ConnectIfHeld, Break, Push, Pull, Spoil};
 ghost use Rattle.script_replay.specs.Going.{IfStops, Goes};
 ghost use Rattle.script_replay.specs.Standing.{IsReady};
@@ -16,7 +16,8 @@ impl Run {
     /// Makes the next connection, unless one is up.
     pub(crate) fn connect<L: LinkStore>(&mut self, line: &mut L) -> Result<(), Stop>
         requires { IsReady self.old (L.line line.old) }
-        ensures { IfStops result (Goes (Connect ∷ []) self.old self.new (L.line line.old) (L.line line.new)) }
+        ensures { IfStops result (Goes (Connect ∷ [])
+            self.old self.new (L.line line.old) (L.line line.new)) }
     {
         ready_goes_on();
         if self.up {
@@ -28,7 +29,8 @@ impl Run {
     /// Makes the next connection, where a side keeps a frame and none is up.
     pub(crate) fn connect_if_held<L: LinkStore>(&mut self, line: &mut L) -> Result<(), Stop>
         requires { IsReady self.old (L.line line.old) }
-        ensures { IfStops result (Goes (ConnectIfHeld ∷ []) self.old self.new (L.line line.old) (L.line line.new)) }
+        ensures { IfStops result (Goes (ConnectIfHeld ∷ [])
+            self.old self.new (L.line line.old) (L.line line.new)) }
     {
         ready_goes_on();
         if self.near.holds() || self.far.holds() {
@@ -42,7 +44,8 @@ impl Run {
     fn connect_next<L: LinkStore>(&mut self, line: &mut L) -> Result<(), Stop>
         requires ready { IsReady self.old (L.line line.old) }
         requires down { self.old.up ≡ false }
-        ensures { IfStops result (Goes (Connect ∷ []) self.old self.new (L.line line.old) (L.line line.new)) }
+        ensures { IfStops result (Goes (Connect ∷ [])
+            self.old self.new (L.line line.old) (L.line line.new)) }
     {
         ready_goes_on();
         let next = self.last + 1;
@@ -84,7 +87,8 @@ impl Run {
         line: &mut L,
     ) -> Result<(), Stop>
         requires { IsReady self.old (L.line line.old) }
-        ensures { IfStops result (Goes (Push dir most ∷ []) self.old self.new (L.line line.old) (L.line line.new)) }
+        ensures { IfStops result (Goes (Push dir most ∷ [])
+            self.old self.new (L.line line.old) (L.line line.new)) }
     {
         ready_goes_on();
         if !self.up {
@@ -113,7 +117,8 @@ impl Run {
     ) -> Result<(), Stop>
         requires sized { length room.old ≡ 65536 }
         requires ready { IsReady self.old (L.line line.old) }
-        ensures { IfStops result (Goes (Pull dir most ∷ []) self.old self.new (L.line line.old) (L.line line.new)) }
+        ensures { IfStops result (Goes (Pull dir most ∷ [])
+            self.old self.new (L.line line.old) (L.line line.new)) }
     {
         ready_goes_on();
         if !self.up {
@@ -140,7 +145,8 @@ impl Run {
         line: &mut L,
     )
         requires { IsReady self.old (L.line line.old) }
-        ensures { Goes (Spoil dir offset byte ∷ []) self.old self.new (L.line line.old) (L.line line.new) None }
+        ensures { Goes (Spoil dir offset byte ∷ [])
+            self.old self.new (L.line line.old) (L.line line.new) None }
     {
         ready_goes_on();
         if self.up {

@@ -21,7 +21,8 @@ pub(crate) fn push_bytes<L: LinkStore>(
     line: &mut L,
 ) -> Result<(), ProxyFault>
     requires { MaySend connection side.old (L.line line.old) }
-    ensures { Answers result (Sends most connection dir side.old side.new (L.line line.old) (L.line line.new)) }
+    ensures { Answers result (Sends most connection dir
+        side.old side.new (L.line line.old) (L.line line.new)) }
 {
     let mut left = most;
     'pieces: while 0 < left {
@@ -51,7 +52,8 @@ fn push_piece<L: LinkStore>(
 ) -> Result<usize, ProxyFault>
     requires some { 0 < most }
     requires ready { MaySend connection side.old (L.line line.old) }
-    ensures { SendsPiece result most connection dir side.old side.new (L.line line.old) (L.line line.new) }
+    ensures { SendsPiece result most connection dir
+        side.old side.new (L.line line.old) (L.line line.new) }
 {
     match side.make_room() {
         Ok(()) => {}
