@@ -1,7 +1,9 @@
 -- How the lines of a script lead on to those behind them, and to the end of the replay.
 use Rattle.std.proofs.Math.Seq.{drop-cons}
-use Rattle.std.proofs.Common.{◌≡◌, ℕ, suc, ◌+◌, ◌<◌, Bool, true, false, List, [], ◌∷◌, ◌++◌, drop, get_or, add-one, length, Option, Some, None, refl, sym, ap, subst, ◌∙◌, arith, inl, inr}
+use Rattle.std.proofs.Common.{◌≡◌, ℕ, suc, ◌+◌, ◌<◌, Bool, true, false, List, [], ◌∷◌, ◌++◌, drop, get_or, add-one, length, Option, Some, None, Result, Ok, Err, refl, sym, ap, subst, ◌∙◌, arith, inl, inr}
 use Rattle.std.proofs.lemmas.List.{append-nil}
+use Rattle.std.specs.Prelude.{IfOk}
+use Rattle.std.specs.declared.alloc.AllocError.{AllocError}
 use Rattle.wp_outside.specs.declared.kinds.Side.TheVariants.{Near, Far}
 use Rattle.wp_outside.specs.Lines as outside
 use Rattle.half_model.specs.declared.items.PeerIn.TheVariants as items
@@ -11,10 +13,12 @@ use Rattle.script_lang.specs.Puts.{is_stop, put_by}
 use Rattle.script_lang.specs.declared.steps.Step.{Step}
 use Rattle.pair_runs.specs.Runs.{Played, Does, AreLines, Plays, PlaysLine, Settles, size_after, MOST, End, Drained, Stopped, Fails, end_by}
 use Rattle.pair_runs.specs.States.{State, Fault}
-use Rattle.script_replay.specs.Going.{GoesBy, fault_in}
-use Rattle.script_replay.specs.Playing.{DoesLine, PlayedTo, LeadsOn, PlaysTo}
+use Rattle.script_replay.specs.Going.{IfStops, GoesBy, fault_in}
+use Rattle.script_replay.specs.Playing.{DoesLine, PlayedTo, LeadsOn, EndsBy, PlaysTo}
 use Rattle.script_replay.specs.Standing.{IsReady, state_of}
 use Rattle.script_replay.specs.declared.failures.Failure.{Failure}
+use Rattle.script_replay.specs.declared.failures.Stop.{Stop}
+use Rattle.script_replay.specs.declared.failures.Stop.TheVariants as stops
 use Rattle.script_replay.specs.declared.run.Run.{Run}
 
 -- ---- one line in front of others
@@ -84,7 +88,7 @@ plays_stop steps left others it most first now before after is stop leads ready 
   stays = ready;
 }
 
-pub plays_fault : (steps left others : List Step) (it : Step) (most : ℕ) (first old new : Run) (before between after : ℕ → outside.Line) (failure : Failure) (ended : PairEnd) → left ≡ it ∷ others → is_stop it.what ≡ false → LeadsOn steps left most (state_of first before) (state_of old between) → IsReady old between
+plays_fault : (steps left others : List Step) (it : Step) (most : ℕ) (first old new : Run) (before between after : ℕ → outside.Line) (failure : Failure) (ended : PairEnd) → left ≡ it ∷ others → is_stop it.what ≡ false → LeadsOn steps left most (state_of first before) (state_of old between) → IsReady old between
     → GoesBy (DoesLine it.what) old new between after (Some (fault_in failure)) → ended ≡ ends.Fault failure.side failure.fault → PlaysTo steps first new before after ended
 plays_fault steps left others it most first old new before between after failure ended is going leads ready goes told = record {
   end = Fails (fault_in failure);
@@ -104,7 +108,7 @@ plays_end steps left most first old new before between after none leads ready go
   stays = (goes ready).stays;
 }
 
-pub plays_end_fault : (steps left : List Step) (most : ℕ) (first old new : Run) (before between after : ℕ → outside.Line) (failure : Failure) (ended : PairEnd) → left ≡ [] → LeadsOn steps left most (state_of first before) (state_of old between) → IsReady old between
+plays_end_fault : (steps left : List Step) (most : ℕ) (first old new : Run) (before between after : ℕ → outside.Line) (failure : Failure) (ended : PairEnd) → left ≡ [] → LeadsOn steps left most (state_of first before) (state_of old between) → IsReady old between
     → GoesBy (Settles most) old new between after (Some (fault_in failure)) → ended ≡ ends.Fault failure.side failure.fault → PlaysTo steps first new before after ended
 plays_end_fault steps left most first old new before between after failure ended none leads ready goes told = record {
   end = Fails (fault_in failure);
@@ -113,6 +117,24 @@ plays_end_fault steps left most first old new before between after failure ended
       (settles_last most (state_of old between) (state_of new after) (Some (fault_in failure)) (goes ready).did));
   stays = (goes ready).stays;
 }
+
+-- ---- where a call stops
+
+pub line_stops : (steps left others : List Step) (it : Step) (most : ℕ) (first old new : Run) (before between after : ℕ → outside.Line) (stop : Stop) (result : Result PairEnd AllocError) → left ≡ it ∷ others → is_stop it.what ≡ false → LeadsOn steps left most (state_of first before) (state_of old between) → IsReady old between
+    → IfStops {X = Unit {0}} (Err stop) (GoesBy (DoesLine it.what) old new between after) → EndsBy stop result → IfOk result (PlaysTo steps first new before after)
+line_stops steps left others it most first old new before between after (stops.Failed failure) (Ok ended) is going leads ready goes told =
+    plays_fault steps left others it most first old new before between after failure ended is going leads ready goes told
+line_stops steps left others it most first old new before between after (stops.Failed failure) (Err error) is going leads ready goes told = tt
+line_stops steps left others it most first old new before between after stops.Memory (Ok ended) is going leads ready goes told = absurd told
+line_stops steps left others it most first old new before between after stops.Memory (Err error) is going leads ready goes told = tt
+
+pub end_stops : (steps left : List Step) (most : ℕ) (first old new : Run) (before between after : ℕ → outside.Line) (stop : Stop) (result : Result PairEnd AllocError) → left ≡ [] → LeadsOn steps left most (state_of first before) (state_of old between) → IsReady old between
+    → IfStops {X = Unit {0}} (Err stop) (GoesBy (Settles most) old new between after) → EndsBy stop result → IfOk result (PlaysTo steps first new before after)
+end_stops steps left most first old new before between after (stops.Failed failure) (Ok ended) none leads ready goes told =
+    plays_end_fault steps left most first old new before between after failure ended none leads ready goes told
+end_stops steps left most first old new before between after (stops.Failed failure) (Err error) none leads ready goes told = tt
+end_stops steps left most first old new before between after stops.Memory (Ok ended) none leads ready goes told = absurd told
+end_stops steps left most first old new before between after stops.Memory (Err error) none leads ready goes told = tt
 
 -- the next line of those that are left
 pub next_step : (steps : List Step) (at : ℕ) (it : Step) → at < length steps → it ≡ get_or steps at it → drop at steps ≡ it ∷ drop (at + 1) steps

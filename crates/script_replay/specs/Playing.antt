@@ -1,5 +1,6 @@
 -- What the lines of a script come to in a replay; the language of scripts is this project's own.
-use Rattle.std.specs.Prelude.{◌≡◌, ℕ, List, ◌++◌, Option, Some, None}
+use Rattle.std.specs.Prelude.{◌≡◌, ℕ, List, ◌++◌, Option, Some, None, Result, Ok, Err}
+use Rattle.std.specs.declared.alloc.AllocError.{AllocError}
 use Rattle.wp_outside.specs.declared.kinds.Side.TheVariants.{Near, Far}
 use Rattle.wp_outside.specs.Lines as outside
 use Rattle.half_model.specs.declared.items.PeerIn.{PeerIn}
@@ -17,6 +18,8 @@ use Rattle.pair_runs.specs.Runs.{End, Drained, Stopped, Fails}
 use Rattle.pair_runs.specs.States.{State, Fault}
 use Rattle.script_replay.specs.Going.{Stays}
 use Rattle.script_replay.specs.Standing.{state_of}
+use Rattle.script_replay.specs.declared.failures.Stop.{Stop}
+use Rattle.script_replay.specs.declared.failures.Stop.TheVariants as stops
 use Rattle.script_replay.specs.declared.run.Run.{Run}
 
 -- a peer does a line, and its side nothing
@@ -47,6 +50,13 @@ abbrev pub kept_end : End → PairEnd
 kept_end Drained = ends.Drained
 kept_end Stopped = ends.Stopped
 kept_end (Fails it) = ends.Fault it.side it.fault
+
+-- why a call stops, as an end: a failure is kept, and want of memory is none
+abbrev pub EndsBy : Stop → Result PairEnd AllocError → Type 0
+EndsBy (stops.Failed it) (Ok end) = end ≡ ends.Fault it.side it.fault
+EndsBy (stops.Failed it) (Err error) = ⊥
+EndsBy stops.Memory (Ok end) = ⊥
+EndsBy stops.Memory (Err error) = Unit {0}
 
 pub record PlaysTo (steps : List Step) (old new : Run) (before after : ℕ → outside.Line)
     (ended : PairEnd) : Type 0 where

@@ -1,12 +1,11 @@
 //! A whole replay.
 
 ghost use Rattle.std.specs.Prelude.{◌≡◌, ◌<◌, length, IfOk, vec_len};
-ghost use Rattle.proxy_trail.specs.declared.pair.PairEnd.TheVariants as ends;
 ghost use Rattle.script_replay.specs.Outcome.{Replays, IsKept, last_in};
-ghost use Rattle.script_replay.specs.Playing.{PlaysTo};
+ghost use Rattle.script_replay.specs.Playing.{PlaysTo, EndsBy};
 ghost use Rattle.script_replay.specs.Standing.{IsReady, NothingOpened};
 
-use crate::failures::{Failure, Stop};
+use crate::failures::Stop;
 use crate::lines::{MOST, is_stop, size_after};
 use crate::run::Run;
 use proxy_trail::{PairEnd, PairRecord, Trail};
@@ -64,25 +63,26 @@ fn play<L: LinkStore>(
         }
         match run.does(&step.what, line, room) {
             Ok(()) => {}
-            Err(Stop::Failed(failure)) => return Ok(failed(failure)),
-            Err(Stop::Memory) => return Err(AllocError),
+            Err(stop) => return ended(stop),
         }
         most = size_after(most, &step.what);
     }
     match run.settle(most, line, room) {
         Ok(()) => Ok(PairEnd::Drained),
-        Err(Stop::Failed(failure)) => Ok(failed(failure)),
-        Err(Stop::Memory) => Err(AllocError),
+        Err(stop) => ended(stop),
     }
 }
 
-/// A failure as the end of a run.
-fn failed(failure: Failure) -> PairEnd
-    ensures { result ≡ ends.Fault failure.side failure.fault }
+/// How a run ends that goes no further.
+fn ended(stop: Stop) -> Result<PairEnd, AllocError>
+    ensures { EndsBy stop result }
 {
-    PairEnd::Fault {
-        side: failure.side,
-        fault: failure.fault,
+    match stop {
+        Stop::Failed(failure) => Ok(PairEnd::Fault {
+            side: failure.side,
+            fault: failure.fault,
+        }),
+        Stop::Memory => Err(AllocError),
     }
 }
 

@@ -1,7 +1,7 @@
 use Rattle.std.proofs.Common.{◌+◌, drop, refl, ◌∙◌, sym, arith}
 use Rattle.std.proofs.Math.ListN.{drop_of_length-le}
 use Rattle.script_replay.specs.Standing.{state_of}
-use Rattle.script_replay.proofs.Ending.{leads_first, leads_more, ready_more, plays_stop, plays_fault, plays_end, plays_end_fault, next_step}
+use Rattle.script_replay.proofs.Ending.{leads_first, leads_more, ready_more, plays_stop, plays_end, line_stops, end_stops, next_step}
 use Rattle.script_replay.proofs.replaying.play.Goals as goal
 
 pub loop-step-init : goal.loop-step-init
@@ -19,13 +19,13 @@ returns-then-is_stop g c =
     plays_stop steps (drop i steps) (drop (i + 1) steps) c.step-item.result c.loop-step.most c.args.run.now c.loop-step.run (g.L.LinkStore.line c.args.line.now) (g.L.LinkStore.line c.loop-step.line)
     (next_step steps i c.step-item.result c.loop-step-test.true c.step-item.is) (sym c.is_stop.ensures ∙ c.if-is_stop.true) c.loop-step.invariant.leads c.loop-step.invariant.ready
 
-pub returns-in-Err-Failed : goal.returns-in-Err-Failed
-returns-in-Err-Failed g c =
+pub returns-in-Err : goal.returns-in-Err
+returns-in-Err g c =
     let steps = c.args.steps.now in
     let i = c.loop-step.step-index in
-    plays_fault steps (drop i steps) (drop (i + 1) steps) c.step-item.result c.loop-step.most c.args.run.now c.loop-step.run c.does.new.self
-    (g.L.LinkStore.line c.args.line.now) (g.L.LinkStore.line c.loop-step.line) (g.L.LinkStore.line c.does.new.line) c.in-Err-Failed.failure c.failed.result
-    (next_step steps i c.step-item.result c.loop-step-test.true c.step-item.is) (sym c.is_stop.ensures ∙ c.if-is_stop.false) c.loop-step.invariant.leads c.loop-step.invariant.ready (rw c.in-Err-Failed.field-0-is at c.in-Err-Failed.ensures) c.failed.ensures
+    line_stops steps (drop i steps) (drop (i + 1) steps) c.step-item.result c.loop-step.most c.args.run.now c.loop-step.run c.does.new.self
+    (g.L.LinkStore.line c.args.line.now) (g.L.LinkStore.line c.loop-step.line) (g.L.LinkStore.line c.does.new.line) c.in-Err.stop c.ended.result
+    (next_step steps i c.step-item.result c.loop-step-test.true c.step-item.is) (sym c.is_stop.ensures ∙ c.if-is_stop.false) c.loop-step.invariant.leads c.loop-step.invariant.ready c.in-Err.ensures c.ended.ensures
 
 pub loop-step-preserved : goal.loop-step-preserved
 loop-step-preserved g c =
@@ -45,8 +45,8 @@ returns-in-Ok-settle g c =
     plays_end c.args.steps.now (drop c.loop-step.step-index c.args.steps.now) c.loop-step.most c.args.run.now c.loop-step.run c.settle.new.self (g.L.LinkStore.line c.args.line.now) (g.L.LinkStore.line c.loop-step.line) (g.L.LinkStore.line c.settle.new.line)
     (drop_of_length-le c.args.steps.now (omega arith)) c.loop-step.invariant.leads c.loop-step.invariant.ready c.in-Ok-settle.ensures
 
-pub returns-in-Err-Failed-settle : goal.returns-in-Err-Failed-settle
-returns-in-Err-Failed-settle g c =
-    plays_end_fault c.args.steps.now (drop c.loop-step.step-index c.args.steps.now) c.loop-step.most c.args.run.now c.loop-step.run c.settle.new.self
-    (g.L.LinkStore.line c.args.line.now) (g.L.LinkStore.line c.loop-step.line) (g.L.LinkStore.line c.settle.new.line) c.in-Err-Failed-settle.failure c.failed-settle.result
-    (drop_of_length-le c.args.steps.now (omega arith)) c.loop-step.invariant.leads c.loop-step.invariant.ready (rw c.in-Err-Failed-settle.field-0-is at c.in-Err-Failed-settle.ensures) c.failed-settle.ensures
+pub returns-in-Err-settle : goal.returns-in-Err-settle
+returns-in-Err-settle g c =
+    end_stops c.args.steps.now (drop c.loop-step.step-index c.args.steps.now) c.loop-step.most c.args.run.now c.loop-step.run c.settle.new.self
+    (g.L.LinkStore.line c.args.line.now) (g.L.LinkStore.line c.loop-step.line) (g.L.LinkStore.line c.settle.new.line) c.in-Err-settle.stop c.ended-in-Err-settle.result
+    (drop_of_length-le c.args.steps.now (omega arith)) c.loop-step.invariant.leads c.loop-step.invariant.ready c.in-Err-settle.ensures c.ended-in-Err-settle.ensures

@@ -16,13 +16,13 @@ pub returns-in-Settle : goal.returns-in-Settle
 returns-in-Settle g c =
     line_quiet c.args.what.now _ c.settle-in-Settle.result c.args.self.now c.settle-in-Settle.new.self (g.L.LinkStore.line c.args.line.now) (g.L.LinkStore.line c.settle-in-Settle.new.line) c.in-Settle.is refl refl c.settle-in-Settle.ensures
 
-pub returns-in-Take-in-Ok : goal.returns-in-Take-in-Ok
-returns-in-Take-in-Ok g c =
+pub returns-in-Ok : goal.returns-in-Ok
+returns-in-Ok g c =
     let before = (g.L.LinkStore.line c.args.line.now) in
     line_done c.args.what.now _ (Take c.in-Take.peer c.in-Take.bytes ∷ []) c.args.self.now c.take.new.self before before c.in-Take.is refl refl refl (c.in-Ok.ensures.moves before)
 
-pub returns-in-Take-in-Err : goal.returns-in-Take-in-Err
-returns-in-Take-in-Err g c =
+pub returns-in-Err : goal.returns-in-Err
+returns-in-Err g c =
     let before = (g.L.LinkStore.line c.args.line.now) in
     let old = c.args.self.now in
     let new = c.take.new.self in
