@@ -8,19 +8,22 @@ use Rattle.side_model.specs.Books.{weight, MOST_WEIGHT}
 use Rattle.side_model.specs.declared.fault.ProxyFault.{ProxyFault}
 use Rattle.pair_runs.specs.Kept.{GoesOn}
 use Rattle.pair_runs.specs.Loading.{LoadsIn, Loads, LoadsAllIn, LoadsAll}
-use Rattle.pair_runs.specs.Moves.{Take, Load, LoadAll, Close, Changes, LoadedThen, ClosedBy, at_side}
+use Rattle.pair_runs.specs.Moves.{Move, Take, Load, LoadAll, Close, Changes, LoadedThen, ClosedBy, at_side}
 use Rattle.pair_runs.specs.Sides.{SideState, rows_of, fed, asked, all_loaded, wants}
-use Rattle.pair_runs.specs.States.{State, Fault}
+use Rattle.pair_runs.specs.States.{State, Fault, connections}
 use Rattle.pair_runs.specs.Taking.{cut_item, Taker, TakesIn, TakesAll, TakesNone}
 use Rattle.pair_runs.proofs.Falling.{takes_quiet, loaded_none}
 use Rattle.pair_runs.proofs.Tying.{works_rows, part_rows}
+use Rattle.script_sides.specs.Answering.{Stays, Stops}
+use Rattle.script_sides.specs.Ready.{ReadyGoesOn}
 use Rattle.script_sides.specs.Sided as sided
 use Rattle.script_sides.specs.Sided.{SideRun}
 use Rattle.script_sides.specs.Takings.{TookSome}
+use Rattle.script_replay.specs.Going.{GoesAside}
 use Rattle.script_replay.specs.Settling.{ChangedIf, ChangedAside}
-use Rattle.script_replay.specs.Standing.{IsReady, state_of}
+use Rattle.script_replay.specs.Standing.{IsReadyAside, IsReady, state_of}
 use Rattle.script_replay.specs.declared.run.Run.{Run}
-use Rattle.script_replay.proofs.Keeping.{run_at, with_run}
+use Rattle.script_replay.proofs.Keeping.{run_at, with_run, ready_with, aside_with, kept_aside, kept_failed, tells_failed, tells_with, one_move, one_fault, LeavesBy, side_moves}
 
 -- ---- lines stay
 
@@ -109,3 +112,80 @@ load_all_changed side old new false all e none some = λ line ready.
     same_taker side old new line (ap (λ (it : SideState). record { side = it; wire = new.peer.wire }) (none refl) ∙ ap (λ (wire : List PeerIn). record { side = sided.state_of (run_at side old); wire = wire }) e)
 load_all_changed side old new true all e none some = λ line ready same.
     some refl (sym (ap (λ (it : Taker). it.side.copies) (at_taker side old new line same)) ∙ loaded_none all.count (sided.state_of (run_at side old)) (sided.state_of new) all.row)
+
+-- ---- each call as a move, of the side that is called
+
+pub take_goes : ReadyGoesOn → (which side : Side) (most : ℕ) (old : Run) (new : SideRun) (stop : Option ProxyFault) → which ≡ side → TakesAll most (sided.taker_of (run_at side old)) (sided.taker_of new) stop → LeavesBy stop (run_at side old) new
+    → GoesAside (Take which most ∷ []) old (with_run side new old) (at_side side stop)
+take_goes law which side most old new stop e all leaves =
+    subst (λ (it : Side). GoesAside (Take it most ∷ []) old (with_run side new old) (at_side side stop)) (sym e)
+    (side_moves law side old new (Take side most) stop (take_changes side most old new stop all) leaves (take_rows most (run_at side old) new stop all))
+
+pub take_told : ReadyGoesOn → (side : Side) (most : ℕ) (old : Run) (new : SideRun) (took : Bool) → TakesAll most (sided.taker_of (run_at side old)) (sided.taker_of new) None → Stays (run_at side old) new
+    → (took ≡ false → sided.taker_of new ≡ sided.taker_of (run_at side old)) → (took ≡ true → TookSome most (sided.taker_of (run_at side old))) → ChangedAside old (with_run side new old) took
+take_told law side most old new took all leaves none some =
+    take_changed side most old new took all (law new leaves.ready).law.weighs none some
+
+pub take_ready : (side : Side) (most : ℕ) (old : Run) (new : SideRun) → TakesAll most (sided.taker_of (run_at side old)) (sided.taker_of new) None → IsReadyAside old → Stays (run_at side old) new → IsReadyAside (with_run side new old)
+take_ready side most old new all ready leaves = aside_with side old new ready leaves (take_rows most (run_at side old) new None all)
+
+pub load_all_goes : ReadyGoesOn → (which side : Side) (old : Run) (new : SideRun) (stop : Option ProxyFault) → which ≡ side → LoadsAll (sided.state_of (run_at side old)) (sided.state_of new) stop → LeavesBy stop (run_at side old) new → new.peer.wire ≡ (run_at side old).peer.wire
+    → GoesAside (LoadAll which ∷ []) old (with_run side new old) (at_side side stop)
+load_all_goes law which side old new stop e all leaves wire =
+    subst (λ (it : Side). GoesAside (LoadAll it ∷ []) old (with_run side new old) (at_side side stop)) (sym e)
+    (side_moves law side old new (LoadAll side) stop (load_all_changes side old new stop all wire) leaves (load_all_rows (sided.state_of (run_at side old)) (sided.state_of new) stop all))
+
+pub load_all_ready : (side : Side) (old : Run) (new : SideRun) → LoadsAll (sided.state_of (run_at side old)) (sided.state_of new) None → IsReadyAside old → Stays (run_at side old) new → IsReadyAside (with_run side new old)
+load_all_ready side old new all ready leaves = aside_with side old new ready leaves (load_all_rows (sided.state_of (run_at side old)) (sided.state_of new) None all)
+
+pub close_goes : ReadyGoesOn → (which side : Side) (old : Run) (new : SideRun) (stop : Option ProxyFault) → which ≡ side → ClosedBy (sided.state_of (run_at side old)).inside.asked stop (sided.state_of (run_at side old)) (sided.state_of new) → LeavesBy stop (run_at side old) new
+    → new.peer.wire ≡ (run_at side old).peer.wire → GoesAside (Close which ∷ []) old (with_run side new old) (at_side side stop)
+close_goes law which side old new stop e closes leaves wire =
+    subst (λ (it : Side). GoesAside (Close it ∷ []) old (with_run side new old) (at_side side stop)) (sym e)
+    (side_moves law side old new (Close side) stop (close_changes side old new stop closes wire) leaves
+    (close_rows (sided.state_of (run_at side old)).inside.asked stop (sided.state_of (run_at side old)) (sided.state_of new) closes))
+
+-- ---- words of both sides, the near side's first
+
+-- the far side's call behind one of the near side
+then_far : ReadyGoesOn → (old mid : Run) (new : SideRun) (move : Move) (stop : Option ProxyFault) → ((line : ℕ → outside.Line) → Changes move (state_of old line) (state_of (with_run Far new mid) line) (at_side Far stop))
+    → ((line : ℕ → outside.Line) → IsReady old line → IsReady mid line) → LeavesBy stop mid.far new → rows_of (sided.state_of new) ≡ rows_of (sided.state_of mid.far)
+    → GoesAside (move ∷ []) old (with_run Far new mid) (at_side Far stop)
+then_far law old mid new move None changes goes leaves e = λ line ready.
+    let between = goes line ready in
+    record {
+      did = one_move move (state_of old line) (state_of (with_run Far new mid) line) (record { changes = changes line; kept = kept_aside law (with_run Far new mid) line (aside_with Far mid new between.aside leaves e) });
+      stays = ready_with Far mid new line between leaves e;
+    }
+then_far law old mid new move (Some fault) changes goes leaves e = λ line ready.
+    let between = goes line ready in
+    record {
+      did = one_fault move (state_of old line) (state_of (with_run Far new mid) line) (record { side = Far; fault = fault }) (record { changes = changes line; kept = kept_failed law Far mid new fault line between.aside leaves });
+      stays = tells_failed Far fault (connections (state_of (with_run Far new mid) line)) (rows_of (sided.state_of mid.near)) (rows_of (sided.state_of new)) line (tells_with Far mid new line e between.tells);
+    }
+
+pub load_stops : ReadyGoesOn → (words : ℕ) (old : Run) (near : SideRun) (fault : ProxyFault) → Loads words (sided.state_of old.near) (sided.state_of near) 0 (Some fault) → Stops old.near near fault → near.peer.wire ≡ old.near.peer.wire
+    → GoesAside (Load words ∷ []) old (with_run Near near old) (Some (record { side = Near; fault = fault }))
+load_stops law words old near fault loads leaves e =
+    side_moves law Near old near (Load words) (Some fault)
+    (λ line. (sided.state_of near, (0, (Some fault, loads, (ap (λ (wire : List PeerIn). record (state_of old line) { near = sided.state_of near; near_wire = wire }) e, refl)))))
+    leaves (load_rows words (sided.state_of old.near) (sided.state_of near) 0 (Some fault) loads)
+
+pub load_goes : ReadyGoesOn → (words over rest : ℕ) (old : Run) (near far : SideRun) (stop : Option ProxyFault) → Loads words (sided.state_of old.near) (sided.state_of near) over None → Loads over (sided.state_of old.far) (sided.state_of far) rest stop
+    → Stays old.near near → LeavesBy stop old.far far → near.peer.wire ≡ old.near.peer.wire → far.peer.wire ≡ old.far.peer.wire
+    → GoesAside (Load words ∷ []) old (with_run Far far (with_run Near near old)) (at_side Far stop)
+load_goes law words over rest old near far stop first second stays leaves e f =
+    then_far law old (with_run Near near old) far (Load words) stop changes
+    (λ line ready. ready_with Near old near line ready stays (load_rows words (sided.state_of old.near) (sided.state_of near) over None first))
+    leaves (load_rows over (sided.state_of old.far) (sided.state_of far) rest stop second)
+  where
+    is : (line : ℕ → outside.Line) → state_of (with_run Far far (with_run Near near old)) line ≡ record (state_of old line) { near = sided.state_of near; far = sided.state_of far }
+    is line =
+        ap (λ (wire : List PeerIn). record (state_of old line) { near = sided.state_of near; far = sided.state_of far; near_wire = wire; far_wire = far.peer.wire }) e
+        ∙ ap (λ (wire : List PeerIn). record (state_of old line) { near = sided.state_of near; far = sided.state_of far; far_wire = wire }) f
+
+    changes : (line : ℕ → outside.Line) → Changes (Load words) (state_of old line) (state_of (with_run Far far (with_run Near near old)) line) (at_side Far stop)
+    changes line = (sided.state_of near, (over, (None, first, (sided.state_of far, (rest, (stop, second, is line, refl))))))
+
+pub load_ready : (words over : ℕ) (old : Run) (near : SideRun) → Loads words (sided.state_of old.near) (sided.state_of near) over None → IsReadyAside old → Stays old.near near → IsReadyAside (with_run Near near old)
+load_ready words over old near loads ready leaves = aside_with Near old near ready leaves (load_rows words (sided.state_of old.near) (sided.state_of near) over None loads)

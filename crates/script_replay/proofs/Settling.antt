@@ -89,6 +89,12 @@ changed_then most a b one other old middle new in_one in_other g h first second 
     (moves_fall most one (state_of old line) (state_of middle line) in_one w.did) (moves_fall most other (state_of middle line) (state_of new line) in_other v.did)
     (first line ready) (second line w.stays)
 
+pub in_take : (side : Side) (most : ℕ) → AllByRecursion (InRound most) (Take side most ∷ [])
+in_take side most = (Takes side refl, tt)
+
+pub in_load : (side : Side) (most : ℕ) → AllByRecursion (InRound most) (LoadAll side ∷ [])
+in_load side most = (Loads side refl, tt)
+
 pub in_takes : (most : ℕ) → AllByRecursion (InRound most) (Take Near most ∷ Take Far most ∷ [])
 in_takes most = (Takes Near refl, (Takes Far refl, tt))
 
@@ -184,6 +190,18 @@ SameWeights s t = (weight t.near.book.trail ≡ weight s.near.book.trail) × (we
 pub weight_closed : (book : Book) → weight (closed book).trail ≡ weight book.trail
 unfolding weight
 weight_closed book = refl
+
+-- what a test of both weights tells, where they were these before
+pub same_weights : (old new : Run) (before after : ℕ → outside.Line) (near far : ℕ) (weighs : Bool) → near ≡ weight old.near.trail.book.trail → far ≡ weight old.far.trail.book.trail
+    → (IsTrue weighs ↔ ((weight new.near.trail.book.trail ≡ near) × (weight new.far.trail.book.trail ≡ far))) → weighs ≡ true → SameWeights (state_of old before) (state_of new after)
+same_weights old new before after near far weighs n f told is =
+    let h = told.0 is in
+    (weight_closed new.near.trail.book ∙ h.0 ∙ n ∙ sym (weight_closed old.near.trail.book), weight_closed new.far.trail.book ∙ h.1 ∙ f ∙ sym (weight_closed old.far.trail.book))
+
+pub only_weights : (old new : Run) (before after : ℕ → outside.Line) (near far : ℕ) (weighs : Bool) → near ≡ weight old.near.trail.book.trail → far ≡ weight old.far.trail.book.trail
+    → (IsTrue weighs ↔ ((weight new.near.trail.book.trail ≡ near) × (weight new.far.trail.book.trail ≡ far))) → SameWeights (state_of old before) (state_of new after) → weighs ≡ true
+only_weights old new before after near far weighs n f told same =
+    told.1 (sym (weight_closed new.near.trail.book) ∙ same.0 ∙ weight_closed old.near.trail.book ∙ sym n, sym (weight_closed new.far.trail.book) ∙ same.1 ∙ weight_closed old.far.trail.book ∙ sym f)
 
 no_less : (most : ℕ) (s t : State) → MovesAll (bring most) s s None → MovesAll (carry most) s t None → SameWeights s t → left t < left s → ⊥
 no_less most s t m n same l =

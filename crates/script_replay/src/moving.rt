@@ -37,6 +37,7 @@ impl Run {
         requires { IsReadyAside self.old }
         ensures moves { IfStops result (GoesAside (Take side most ∷ []) self.old self.new) }
         ensures took { IfOk result (ChangedAside self.old self.new) }
+        ensures ready { OnOk result (IsReadyAside self.new) }
     {
         ready_goes_on();
         match side {
@@ -71,6 +72,7 @@ impl Run {
         requires { IsReadyAside self.old }
         ensures moves { IfStops result (GoesAside (LoadAll side ∷ []) self.old self.new) }
         ensures loaded { IfOk result (ChangedAside self.old self.new) }
+        ensures ready { OnOk result (IsReadyAside self.new) }
     {
         ready_goes_on();
         match side {

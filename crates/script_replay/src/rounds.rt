@@ -1,7 +1,8 @@
 //! The rounds in which all that waits moves.
 
-ghost use Rattle.std.specs.Prelude.{◌≡◌, ℕ, ◌<◌, [], ◌∷◌, length, IfOk};
+ghost use Rattle.std.specs.Prelude.{◌≡◌, ◌↔◌, ℕ, ◌<◌, ◌||◌, [], ◌∷◌, length, IsTrue, IfOk, OnOk};
 ghost use Rattle.wp_outside.specs.declared.kinds.Side.TheVariants.{Near, Far};
+ghost use Rattle.side_model.specs.Books.{weight};
 ghost use Rattle.pair_runs.specs.Moves.{Take, LoadAll, Push, Pull};
 ghost use Rattle.pair_runs.specs.Runs.{round, Settles};
 ghost use Rattle.script_replay.specs.Going.{IfStops, Goes, GoesBy, GoesAside};
@@ -53,13 +54,21 @@ impl Run {
         match self.bring(most) {
             Ok(brought) => match self.carry(most, line, room) {
                 Ok(()) => {
-                    let weighs = near == self.near.weight() && far == self.far.weight();
-                    Ok(brought || !weighs)
+                    let weighs = self.weighs(near, far);
+                    Ok(either(brought, !weighs))
                 }
                 Err(stop) => Err(stop),
             },
             Err(stop) => Err(stop),
         }
+    }
+
+    /// Whether the records of both sides weigh so much.
+    fn weighs(&self, near: u64, far: u64) -> bool
+        ensures { IsTrue result ↔ ((weight self.now.near.trail.book.trail ≡ near)
+            × (weight self.now.far.trail.book.trail ≡ far)) }
+    {
+        near == self.near.weight() && far == self.far.weight()
     }
 
     /// Both sides take from their wires, and all copies that are awaited are loaded. Answers
@@ -71,7 +80,7 @@ impl Run {
     {
         match self.take_both(most) {
             Ok(took) => match self.load_both() {
-                Ok(loaded) => Ok(took || loaded),
+                Ok(loaded) => Ok(either(took, loaded)),
                 Err(stop) => Err(stop),
             },
             Err(stop) => Err(stop),
@@ -83,10 +92,11 @@ impl Run {
         requires { IsReadyAside self.old }
         ensures moves { IfStops result (GoesAside (Take Near most ∷ Take Far most ∷ []) self.old self.new) }
         ensures took { IfOk result (ChangedAside self.old self.new) }
+        ensures ready { OnOk result (IsReadyAside self.new) }
     {
         match self.take(Side::Near, most) {
             Ok(near) => match self.take(Side::Far, most) {
-                Ok(far) => Ok(near || far),
+                Ok(far) => Ok(either(near, far)),
                 Err(stop) => Err(stop),
             },
             Err(stop) => Err(stop),
@@ -101,7 +111,7 @@ impl Run {
     {
         match self.load_all(Side::Near) {
             Ok(near) => match self.load_all(Side::Far) {
-                Ok(far) => Ok(near || far),
+                Ok(far) => Ok(either(near, far)),
                 Err(stop) => Err(stop),
             },
             Err(stop) => Err(stop),
@@ -145,4 +155,11 @@ impl Run {
             Err(stop) => Err(stop),
         }
     }
+}
+
+/// Whether one of both is so.
+fn either(first: bool, second: bool) -> bool
+    ensures { result ≡ (first || second) }
+{
+    first || second
 }
