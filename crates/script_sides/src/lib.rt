@@ -11,6 +11,3 @@ mod progress;
 mod side;
 
 pub use side::ScriptSide;
-
-#[cfg(test)]
-mod tests;
