@@ -3,10 +3,8 @@ pub mod Codes
 pub mod Endings
 pub mod Moving
 pub mod Names
-pub mod Outcomes
 pub mod Parts
-pub mod Printing
-pub mod Report
+pub mod Reports
 pub mod Streams
 pub mod Texts
 pub mod Top

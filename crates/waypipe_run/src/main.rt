@@ -11,7 +11,6 @@ mod names;
 mod plain;
 mod reading;
 mod replies;
-mod report;
 mod scripts;
 mod status;
 #[cfg(test)]
