@@ -1,0 +1,4 @@
+pub mod Owning
+pub mod Lending
+pub mod OwnLaws
+pub mod OutLaws

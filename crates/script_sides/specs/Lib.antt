@@ -1,0 +1,7 @@
+pub mod Halves
+pub mod Sided
+pub mod Ready
+pub mod Answering
+pub mod Takings
+pub mod Linked
+pub mod Progressing
