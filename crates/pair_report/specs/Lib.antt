@@ -1,0 +1,5 @@
+pub mod Heard
+pub mod Meant
+pub mod Lines
+pub mod Passing
+pub mod Report

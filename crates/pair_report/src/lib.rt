@@ -1,0 +1,20 @@
+//! The report of a pair of Wayland proxies, told by the records of both: what the application and
+//! the compositor sent and received, and what the proxies and their link did.
+#![tactic(auto)]
+
+mod flows;
+mod got;
+mod heard;
+mod lines;
+mod long;
+mod meaning;
+mod mirror;
+mod mirrors;
+mod options;
+mod passing;
+mod pipes;
+mod report;
+mod sums;
+
+pub use options::{Got, ReportOptions};
+pub use report::report;

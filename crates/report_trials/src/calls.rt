@@ -1,0 +1,80 @@
+//! The calls of a proxy that ask for something, each behind the test that it offers for that.
+
+use crate::trouble::Trouble;
+use half_model::PeerIn;
+use handle_table::Handle;
+use proxy_trail::Trail;
+use wl_wire::Bytes;
+use wp_outside::{HandleKind, PipeItem};
+
+// The most bytes that a peer puts on its wire at once.
+const MOST_PIECE: usize = 65_536;
+
+/// The peer puts bytes of messages on its wire.
+pub fn say(trail: &mut Trail, bytes: Bytes) -> Result<(), Trouble> {
+    if !trail.wants_peer() || bytes.is_empty() || bytes.len() > MOST_PIECE {
+        return Err(Trouble::NotNow);
+    }
+    trail.feed_peer(PeerIn::Bytes(bytes))?;
+    Ok(())
+}
+
+/// The peer puts a handle on its wire.
+pub fn hand(trail: &mut Trail, number: i32, kind: HandleKind) -> Result<(), Trouble> {
+    if !trail.wants_peer() {
+        return Err(Trouble::NotNow);
+    }
+    trail.feed_peer(PeerIn::Handle(Handle { number, kind }))?;
+    Ok(())
+}
+
+/// The peer writes to a pipe.
+pub fn write_pipe(trail: &mut Trail, pipe: i32, bytes: Bytes) -> Result<(), Trouble> {
+    if !trail.wants_peer() || bytes.is_empty() || bytes.len() > MOST_PIECE {
+        return Err(Trouble::NotNow);
+    }
+    trail.feed_peer(PeerIn::Pipe(PipeItem::Bytes { pipe, bytes }))?;
+    Ok(())
+}
+
+/// The peer closes the write end of a pipe.
+pub fn end_pipe(trail: &mut Trail, pipe: i32) -> Result<(), Trouble> {
+    if !trail.wants_peer() {
+        return Err(Trouble::NotNow);
+    }
+    trail.feed_peer(PeerIn::Pipe(PipeItem::End { pipe }))?;
+    Ok(())
+}
+
+/// The peer closes the reading end of a pipe.
+pub fn shut_pipe(trail: &mut Trail, pipe: i32) -> Result<(), Trouble> {
+    if !trail.wants_peer() {
+        return Err(Trouble::NotNow);
+    }
+    trail.feed_peer(PeerIn::Pipe(PipeItem::Shut { pipe }))?;
+    Ok(())
+}
+
+/// A connection comes up.
+pub fn connect(trail: &mut Trail, connection: u32) -> Result<(), Trouble> {
+    if !trail.may_connect(connection) {
+        return Err(Trouble::NotNow);
+    }
+    trail.link_up(connection)?;
+    Ok(())
+}
+
+/// A piece comes on the connection.
+pub fn read(trail: &mut Trail, piece: &[u8]) -> Result<(), Trouble> {
+    trail.feed_link(piece)?;
+    Ok(())
+}
+
+/// So many of the bytes that were lent are written.
+pub fn write(trail: &mut Trail, count: usize) -> Result<(), Trouble> {
+    if count > trail.room() {
+        return Err(Trouble::NotNow);
+    }
+    trail.link_sent(count);
+    Ok(())
+}

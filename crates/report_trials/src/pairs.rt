@@ -1,0 +1,31 @@
+//! A new pair.
+
+use proxy_trail::{PairEnd, PairRecord, Trail};
+use std::alloc::{AllocError, Global};
+use take_half::PeerRecord;
+use wp_outside::Side;
+
+// The session's token.
+const TOKEN: [u8; 16] = *b"of this session.";
+
+/// A pair of proxies to which nothing has happened.
+pub fn new_pair(alloc: Global) -> Result<PairRecord, AllocError> {
+    match (
+        Trail::new(alloc, Side::Near, TOKEN),
+        Trail::new(alloc, Side::Far, TOKEN),
+    ) {
+        (Ok(near), Ok(far)) => Ok(pair_of(alloc, near, far)),
+        _ => Err(AllocError),
+    }
+}
+
+fn pair_of(alloc: Global, near: Trail, far: Trail) -> PairRecord {
+    PairRecord {
+        near,
+        far,
+        application: PeerRecord::new(alloc),
+        compositor: PeerRecord::new(alloc),
+        connections: 0,
+        end: PairEnd::Drained,
+    }
+}

@@ -1,0 +1,25 @@
+//! What the peers are given.
+
+use half_model::PeerOut;
+use proxy_trail::Trail;
+use std::alloc::AllocError;
+use take_half::PeerRecord;
+
+// Takes an item in; receipts are let go.
+fn take(peer: &mut PeerRecord, item: PeerOut) -> Result<(), AllocError> {
+    match item {
+        PeerOut::Receipt { .. } => Ok(()),
+        other => peer.take(other),
+    }
+}
+
+/// Gives a peer all that its proxy has for it.
+pub fn give_all(trail: &mut Trail, peer: &mut PeerRecord) -> Result<(), AllocError> {
+    for _ in 0..u64::MAX {
+        match trail.peer_out() {
+            Some(item) => take(peer, item)?,
+            None => break,
+        }
+    }
+    Ok(())
+}
