@@ -1,7 +1,7 @@
 -- Each call of a proxy with its records keeps all its receipts own, and what it lends and gives is own.
-use Rattle.std.proofs.Common.{◌≡◌, ℕ, List, [], ◌∷◌, ◌++◌, Bool, true, false, cond, Option, Some, None, Result, Ok, Err, refl, sym, ap, subst, ◌∙◌, find}
+use Rattle.std.proofs.Common.{◌≡◌, ℕ, List, [], ◌∷◌, Option, Some, None, Result, Ok, Err, refl, sym, ap, subst, ◌∙◌, MatchOption}
+use Rattle.std.proofs.lemmas.Bool.{cond_both}
 use Rattle.std.specs.List.{AllByRecursion}
-use Rattle.pool_words.specs.Views.{EyeState, ReceiptState}
 use Rattle.half_model.specs.declared.items.PeerOut.{PeerOut}
 use Rattle.half_model.specs.declared.items.PeerOut.TheVariants as outputs
 use Rattle.shm_pools.specs.declared.notes.Note.{Note}
@@ -13,8 +13,8 @@ use Rattle.side_model.specs.Events.{Event, Went, Rest}
 use Rattle.side_model.specs.Shows.{first_item}
 use Rattle.side_model.specs.State.{Now}
 use Rattle.side_model.specs.Steps.{step}
-use Rattle.side_model.specs.Trails.{TrailState, with_notes, Done, FailsNow, FailsAgain, RunsTrail, TrailAfter, TrailCalls, Sends, RunsLends, LendsAfter}
-use Rattle.receipt_laws.specs.Owning.{Ownership, EyeIsOwn, NoteIsOwn, StateIsOwn, JobIsOwn, GivenIsOwn, AllOwn, BringsOwn, TrailIsOwn}
+use Rattle.side_model.specs.Trails.{TrailState, with_notes, RunsTrail, TrailAfter, TrailCalls, Sends, RunsLends, LendsAfter}
+use Rattle.receipt_laws.specs.Owning.{Ownership, NoteIsOwn, StateIsOwn, JobIsOwn, GivenIsOwn, AllOwn}
 use Rattle.receipt_laws.specs.OwnLaws.{OwnAtFirst, CallsKeepOwn, StepsKeepOwn, SendsKeepOwn, LendsKeepOwn, LentIsOwn, GivesOwn, Grows, MoreIsOwn}
 use Rattle.receipt_laws.proofs.Events.{events_keep, parts_keep}
 
@@ -71,20 +71,13 @@ by_lending P result old new h d none = by_fault old.fault refl d
 
 -- ---- what is found
 
-abbrev OnJob : (Job → Type 0) → Option Job → Type 0
-OnJob P None = Unit {0}
-OnJob P (Some job) = P job
-
-found_job : (P : Job → Type 0) (jobs : List Job) → AllByRecursion P jobs → OnJob P (first_waiting jobs)
+found_job : (P : Job → Type 0) (jobs : List Job) → AllByRecursion P jobs → MatchOption (first_waiting jobs) (Unit {0}) P
 found_job P [] h = tt
-found_job P (job ∷ jobs) h = by_wait (waits job.state)
-  where
-    by_wait : (b : Bool) → OnJob P (cond b (Some job) (first_waiting jobs))
-    by_wait true = h.0
-    by_wait false = found_job P jobs h.1
+found_job P (job ∷ jobs) h =
+    cond_both (waits job.state) (Some job) (first_waiting jobs) (λ (found : Option Job). MatchOption found (Unit {0}) P) (λ e. h.0) (λ e. found_job P jobs h.1)
 
 pub first_has : (P : Job → Type 0) (jobs : List Job) (job : Job) → AllByRecursion P jobs → first_waiting jobs ≡ Some job → P job
-first_has P jobs job h e = subst (OnJob P) e (found_job P jobs h)
+first_has P jobs job h e = subst (λ (found : Option Job). MatchOption found (Unit {0}) P) e (found_job P jobs h)
 
 -- ---- more of a list
 
@@ -118,17 +111,13 @@ module _ (Own : Ownership) where
   lent_is_own s job eye h found state =
       subst (λ (it : JobState). StateIsOwn Own job.part it) state (first_has (JobIsOwn Own) s.kept.jobs job h.jobs found)
 
-  pub gives_own : GivesOwn Own
-  gives_own s item h found = subst OnItem found (by_items s.live.items s.live.receipts h.items h.receipts)
-    where
-      OnItem : Option PeerOut → Type 0
-      OnItem None = Unit {0}
-      OnItem (Some it) = GivenIsOwn Own it
+  first_own : (items receipts : List PeerOut) → AllByRecursion (GivenIsOwn Own) items → AllByRecursion (GivenIsOwn Own) receipts → MatchOption (first_item items receipts) (Unit {0}) (GivenIsOwn Own)
+  first_own [] [] i r = tt
+  first_own [] (receipt ∷ receipts) i r = r.0
+  first_own (it ∷ items) receipts i r = i.0
 
-      by_items : (items receipts : List PeerOut) → AllByRecursion (GivenIsOwn Own) items → AllByRecursion (GivenIsOwn Own) receipts → OnItem (first_item items receipts)
-      by_items [] [] i r = tt
-      by_items [] (receipt ∷ receipts) i r = r.0
-      by_items (it ∷ items) receipts i r = i.0
+  pub gives_own : GivesOwn Own
+  gives_own s item h found = subst (λ (it : Option PeerOut). MatchOption it (Unit {0}) (GivenIsOwn Own)) found (first_own s.live.items s.live.receipts h.items h.receipts)
 
 module _ (Own Other : Ownership) where
   more_state : Grows Own Other → (part : Words) (state : JobState) → StateIsOwn Own part state → StateIsOwn Other part state

@@ -1,20 +1,19 @@
 -- Each event of a proxy keeps all its receipts own.
 --
 -- A message that is taken uses a note that waits, and each of its jobs has the eye that this note has at the job's file and segment. A job that is handed back has the receipt that the event brings. The group of the last message makes the receipts of its jobs into items. No other event makes an eye or a receipt, and a frame of the other side brings none.
-use Rattle.std.proofs.Common.{◌≡◌, ℕ, ℤ, List, [], ◌∷◌, ◌++◌, map, drop, filter_map, Bool, true, false, cond, Option, Some, None, slice_get, refl, sym, ap, subst, ◌∙◌, MatchOption}
+use Rattle.std.proofs.Common.{ℕ, ℤ, List, [], ◌∷◌, map, filter_map, Option, Some, None, sym, subst, MatchOption}
 use Rattle.std.proofs.Math.Dec.{ltb}
 use Rattle.std.proofs.lemmas.Bool.{cond_both}
 use Rattle.std.specs.List.{AllByRecursion}
 use Rattle.wp_outside.specs.declared.kinds.HandleKind.{HandleKind}
-use Rattle.pool_words.specs.Views.{EyeState, ReceiptState}
+use Rattle.pool_words.specs.Views.{EyeState}
 use Rattle.shm_pools.specs.declared.notes.Note.{Note}
 use Rattle.half_model.specs.declared.deeds.Deed.{Deed}
 use Rattle.half_model.specs.declared.deeds.Deed.TheVariants.{Commit, Keymap}
-use Rattle.half_model.specs.declared.items.FileReceipt.{FileReceipt}
 use Rattle.half_model.specs.declared.items.PeerIn.TheVariants as inputs
 use Rattle.half_model.specs.declared.items.PeerOut.{PeerOut}
 use Rattle.half_model.specs.Content.{heard}
-use Rattle.half_model.specs.Filling.{Part, parts_of}
+use Rattle.half_model.specs.Filling.{parts_of}
 use Rattle.half_model.specs.Group.{Owed, owed_by}
 use Rattle.half_model.specs.Inlet.{Inlet, ready, without_ready, end_of, note_for, notes_left, eyes_in}
 use Rattle.half_model.specs.Jobs.{Job, JobState, Waits, IsOut, IsBack, Done, waits, is_done, lent, handed, all_back, receipts_of, receipt_in}
@@ -23,14 +22,12 @@ use Rattle.half_model.specs.PipeTurn as pipes
 use Rattle.half_model.specs.PipeTurn.{PipeTurn, pipe_turn}
 use Rattle.half_model.specs.Turn as turns
 use Rattle.half_model.specs.Turn.{Sending, Treated, Turn, turn, MadeGroup, made_of, group_due}
-use Rattle.side_model.specs.Calls.{Part as Goes}
-use Rattle.side_model.specs.Due.{next}
 use Rattle.side_model.specs.Events.{Event, Fed, Handed, Lent, Up, Down, Came, Went, Gave, Asks, Told, Heard, Took, Grouped, Ended, Chose}
 use Rattle.side_model.specs.State.{Now, Closing, Open, Asked, Made}
 use Rattle.side_model.specs.Steps.{step, fed_pipe, gone, took, grouped, ended, receipt_item}
 use Rattle.side_model.proofs.Dues.{DueIn, InHear, InGroup, InTreat, InEnd, InChoose, due_in, frame_due, group_is_due, turn_due, end_is_due, choice_due}
 use Rattle.side_model.proofs.Sounds.{all_append, all_drop}
-use Rattle.receipt_laws.specs.Owning.{Ownership, EyeIsOwn, NoteIsOwn, StateIsOwn, JobIsOwn, ReturnsOwn, GivenIsOwn, AllOwn, BringsOwn}
+use Rattle.receipt_laws.specs.Owning.{Ownership, NoteIsOwn, StateIsOwn, JobIsOwn, ReturnsOwn, GivenIsOwn, AllOwn, BringsOwn}
 use Rattle.receipt_laws.specs.OwnLaws.{EventsKeepOwn, PartsKeepOwn}
 use Rattle.receipt_laws.proofs.Hearing.{heard_own}
 use Rattle.receipt_laws.proofs.Parts.{EyesAreOwn, parts_in_eyes, jobs_own}

@@ -1,5 +1,5 @@
 -- What a frame of the other side brings for the peer is no receipt.
-use Rattle.std.proofs.Common.{◌≡◌, ℕ, ℤ, List, [], ◌∷◌, ◌++◌, Option, Some, None, Result, Ok, Err, option_map, option_to_list}
+use Rattle.std.proofs.Common.{ℕ, ℤ, List, [], ◌∷◌, ◌++◌, Option, Some, None, Result, Ok, Err, option_map, option_to_list}
 use Rattle.std.proofs.lemmas.Bool.{cond_both}
 use Rattle.std.specs.List.{AllByRecursion}
 use Rattle.wp_outside.specs.declared.kinds.HandleKind.{HandleKind}
@@ -17,7 +17,7 @@ use Rattle.transfer_frames.specs.declared.frame.Frame.TheVariants as frames
 use Rattle.pipe_relay.specs.Pipes.{item_of_frame}
 use Rattle.half_model.specs.declared.items.PeerOut.{PeerOut}
 use Rattle.half_model.specs.declared.items.PeerOut.TheVariants as items
-use Rattle.half_model.specs.Content.{Taking, Passage, has_kind, passed_alone, passed_with, passed_by_kind, passed_step, and_then, pass_all, none_waits, all_used, passage_of, with_held, heard, heard_messages, heard_of_pipe}
+use Rattle.half_model.specs.Content.{Taking, Passage, has_kind, passed_with, passed_by_kind, passed_step, and_then, pass_all, none_waits, passage_of, with_held, heard, heard_messages}
 use Rattle.half_model.specs.Planning.{kind_carried}
 use Rattle.half_model.specs.Sides.{other_way}
 use Rattle.half_model.specs.Tables.{Tables}
@@ -41,9 +41,11 @@ module _ (Own : Ownership) where
   with_own tracked message kind now handles [] h = tt
   with_own tracked message kind now handles (rid ∷ rids) h =
       let handle : PeerOut = items.Handle (record { number = rid; kind = kind }) in
-      let given : List PeerOut = now.given ++ handle ∷ items.Bytes message ∷ [] in
-      cond_both (has_kind kind (kind_of_rid handles rid)) (Ok (record { tracked = tracked; waiting = rids; held = with_held kind rid now.held; given = given })) (Err RidCount)
-      OnPassed (λ e. all_append (GivenIsOwn Own) now.given (handle ∷ items.Bytes message ∷ []) h (tt, (tt, tt))) (λ e. tt)
+      let behind : List PeerOut = handle ∷ items.Bytes message ∷ [] in
+      let passed : Passage = record { tracked = tracked; waiting = rids; held = with_held kind rid now.held; given = now.given ++ behind } in
+      let good : Result Passage FrameCause = Ok passed in
+      let bad : Result Passage FrameCause = Err RidCount in
+      cond_both (has_kind kind (kind_of_rid handles rid)) good bad OnPassed (λ e. all_append (GivenIsOwn Own) now.given behind h (tt, (tt, tt))) (λ e. tt)
 
   kind_own : (kind : Option HandleKind) (tracked : Tracked) (message : List ℕ) (now : Passage) (handles : Table) → AreOwn now.given
       → OnPassed (passed_by_kind kind tracked message now handles)

@@ -1,15 +1,13 @@
 -- The jobs of a message, of which one at most is out: it goes out, it is awaited, and it is handed back.
-use Rattle.std.proofs.Common.{◌≡◌, ℕ, List, [], ◌∷◌, ◌++◌, length, Bool, true, false, ◌&&◌, ◌||◌, cond, eqb, Option, Some, None, refl, sym, ap, subst, ◌∙◌}
-use Rattle.std.proofs.lemmas.Bool.{cond_both, and_parts, and_from, and_left, and_right, or_left, or_right, or_parts, eq-eqb, false≢true, true≢false}
-use Rattle.std.specs.List.{AllByRecursion, list_any, list_all}
+use Rattle.std.proofs.Common.{◌≡◌, List, [], ◌∷◌, ◌++◌, length, Bool, true, false, ◌||◌, cond, eqb, Option, Some, None, refl, sym, ap, subst, ◌∙◌}
+use Rattle.std.proofs.lemmas.Bool.{cond_both, and_parts, and_from, and_left, and_right, or_left, or_right, eq-eqb, false≢true, true≢false}
+use Rattle.std.specs.List.{AllByRecursion}
 use Rattle.pool_words.specs.Views.{EyeState}
-use Rattle.copy_workers.specs.Copies.{DoneState, IsCopyOf}
-use Rattle.copy_workers.specs.declared.copies.CopyJob.{CopyJob}
 use Rattle.half_model.specs.Group.{Owed}
-use Rattle.half_model.specs.Jobs.{Job, JobState, Waits, IsOut, IsBack, Done, waits, is_out, is_back, first_waiting, lent, is_done, awaits, handed, all_back}
-use Rattle.half_model.specs.Turn.{MadeGroup, group_due, made_of}
+use Rattle.half_model.specs.Jobs.{Job, JobState, Waits, IsBack, Done, waits, is_out, is_back, first_waiting, lent, is_done, awaits, handed, all_back}
+use Rattle.half_model.specs.Turn.{group_due, made_of}
 use Rattle.side_model.proofs.Sounds.{all_append}
-use Rattle.receipt_laws.specs.Owning.{Ownership, EyeIsOwn, ReturnsOwn}
+use Rattle.receipt_laws.specs.Owning.{Ownership, ReturnsOwn}
 use Rattle.receipt_laws.specs.OwnLaws.{BackIsOwn}
 use Rattle.receipt_laws.specs.Lending.{FitsEye, JobFits, IsIn, sent_out, OneOut, IsBackOf}
 use Rattle.receipt_laws.specs.OutLaws.{CopyIsBack, BackIsAwaited}
@@ -109,7 +107,7 @@ copy_is_back job copy done l c = record {
   pool = ap (λ receipt. receipt.pool) c.loads;
 }
 
-is_back_of : (job : Job) (eye : EyeState) (done : Done) → IsBackOf job eye done → (job.low ≡ eye.low) × (job.pool ≡ eye.number) → is_done done (sent_out job) ≡ true
+pub is_back_of : (job : Job) (eye : EyeState) (done : Done) → IsBackOf job eye done → (job.low ≡ eye.low) × (job.pool ≡ eye.number) → is_done done (sent_out job) ≡ true
 is_back_of job eye done b f =
     and_from (eqb job.id done.id) _ (eq-eqb job.id done.id (sym b.id))
     (and_from (eqb job.part.first done.first) _ (eq-eqb job.part.first done.first (sym b.first))

@@ -1,5 +1,5 @@
 -- What an event brings has to be own, or not all is own behind it.
-use Rattle.std.proofs.Common.{◌≡◌, ℕ, List, [], ◌∷◌, ◌++◌, Bool, true, cond, refl, sym, ap, subst, ◌∙◌}
+use Rattle.std.proofs.Common.{◌≡◌, ℕ, List, [], ◌∷◌, ◌++◌, Bool, true, cond, ap, subst, ◌∙◌}
 use Rattle.std.specs.List.{AllByRecursion}
 use Rattle.shm_pools.specs.declared.notes.Note.{Note}
 use Rattle.half_model.specs.Jobs.{Job, IsBack, Done, is_done, handed}

@@ -1,11 +1,10 @@
 -- Each call of a proxy with its records leaves a copy out but the one that hands it back.
-use Rattle.std.proofs.Common.{◌≡◌, ℕ, List, Option, Some, None, Result, Ok, Err, refl, sym, ap, subst, ◌∙◌}
+use Rattle.std.proofs.Common.{◌≡◌, List, [], Option, Some, None, Ok, refl, subst, ◌∙◌}
 use Rattle.half_model.specs.Jobs.{Job}
 use Rattle.side_model.specs.declared.fault.ProxyFault.{ProxyFault}
 use Rattle.side_model.specs.Calls.{Part}
 use Rattle.side_model.specs.Events.{Event, Handed, Went}
 use Rattle.side_model.specs.State.{Now}
-use Rattle.side_model.specs.Steps.{step}
 use Rattle.side_model.specs.Trails.{TrailState, with_notes, Done, TrailAfter, TrailCalls}
 use Rattle.receipt_laws.specs.Lending.{CopiesAre}
 use Rattle.receipt_laws.specs.OutLaws.{NoneOutAtFirst, CallsLeave, CallsSame, StepsLeave, LendsLeave, SendsLeave, CallsLend, CallsHand}

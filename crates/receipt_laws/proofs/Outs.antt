@@ -11,7 +11,7 @@ use Rattle.half_model.specs.declared.items.PeerOut.{PeerOut}
 use Rattle.half_model.specs.Filling.{Part, parts_of}
 use Rattle.half_model.specs.Group.{Owed, owed_by}
 use Rattle.half_model.specs.Inlet.{note_for, eyes_in}
-use Rattle.half_model.specs.Jobs.{Job, first_waiting, lent, handed}
+use Rattle.half_model.specs.Jobs.{Job, lent, handed}
 use Rattle.half_model.specs.Planning.{Plan}
 use Rattle.half_model.specs.PipeTurn as pipes
 use Rattle.half_model.specs.PipeTurn.{PipeTurn, pipe_turn}
@@ -22,7 +22,7 @@ use Rattle.side_model.specs.Events.{Event, Fed, Handed, Lent, Up, Down, Came, We
 use Rattle.side_model.specs.State.{Now, Closing, Open, Asked, Made}
 use Rattle.side_model.specs.Steps.{step, fed_pipe, gone, took, grouped, ended}
 use Rattle.side_model.proofs.Dues.{DueIn, InHear, InGroup, InTreat, InEnd, InChoose, due_in, frame_due, group_is_due, turn_due, end_is_due, choice_due}
-use Rattle.receipt_laws.specs.Lending.{JobFits, IsIn, OneOut, OutIs, CopiesAre, LeavesCopies}
+use Rattle.receipt_laws.specs.Lending.{JobFits, IsIn, CopiesAre, LeavesCopies}
 use Rattle.receipt_laws.specs.OutLaws.{EventsLeave, EventsSame, LentGoesOut, HandedIsIn}
 use Rattle.receipt_laws.proofs.Jobs.{lent_one, lent_none, lent_fit, one_back, none_due, some_out, handed_in, handed_fit}
 use Rattle.receipt_laws.proofs.Parts.{jobs_fit, jobs_in}

@@ -1,11 +1,11 @@
 -- The jobs of a message lie in the file whose eyes they have, so each of them has the eye that stands at its segment.
-use Rattle.std.proofs.Common.{◌≡◌, ℕ, ◌+◌, ◌-◌, ◌*◌, ◌<◌, ◌≤◌, zero, suc, min, ℤ, List, [], ◌∷◌, ◌++◌, length, map, flat_map, Some, None, slice_get, get_or, refl, sym, subst, arith}
+use Rattle.std.proofs.Common.{◌≡◌, ℕ, ◌+◌, ◌-◌, ◌*◌, ◌<◌, ◌≤◌, zero, suc, min, ℤ, List, [], ◌∷◌, length, map, Some, slice_get, get_or, refl, sym, subst, arith}
 use Rattle.std.proofs.Math.Dec.{ltb}
 use Rattle.std.proofs.lemmas.Bool.{cond_both}
 use Rattle.std.proofs.lemmas.List.{length-map}
 use Rattle.std.specs.List.{AllByRecursion}
 use Rattle.block_intervals.specs.declared.run.Run.{Run}
-use Rattle.pool_words.specs.Views.{EyeState, ReceiptState}
+use Rattle.pool_words.specs.Views.{EyeState}
 use Rattle.half_model.specs.Filling.{Part, part_in, parts_from, parts_of_piece, parts_of}
 use Rattle.half_model.specs.Jobs.{no_eye, jobs_of, split}
 use Rattle.side_model.proofs.Sounds.{all_append}

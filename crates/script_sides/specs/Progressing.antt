@@ -1,5 +1,5 @@
 -- How far words are loaded by one step of it; this project's own.
-use Rattle.std.specs.Prelude.{◌≡◌, ◌≢◌, ◌+◌, ◌<◌, ◌≤◌, ℕ, Bool, true, false, [], Option, Some, None, Result, Ok}
+use Rattle.std.specs.Prelude.{◌≡◌, ◌≢◌, ◌+◌, ◌-◌, ◌<◌, ◌≤◌, ℕ, Bool, true, false, [], Option, Some, None, Result, Ok}
 use Rattle.std.specs.Prelude.{Err}
 use Rattle.pair_runs.specs.Loading.{Loads}
 use Rattle.pair_runs.specs.Sides.{SideState, all_loaded, words_left}
@@ -50,6 +50,7 @@ with_half half it = record it { half = Some half }
 -- a copy is taken out of a side, to be loaded, where one is awaited
 pub record BeginsCopy (half : HalfState) (old new : SideRun) : Type 0 where
   pub ready : IsReady (with_half half new)
+  pub none : new.half ≡ None
   pub same : state_of (with_half half new) ≡ state_of old
   pub peer : new.peer ≡ old.peer
   pub up : is_up new ≡ is_up old
@@ -63,6 +64,21 @@ pub record BeginsNone (old new : SideRun) : Type 0 where
 abbrev pub Begins : Option HalfState → SideRun → SideRun → Type 0
 Begins None old new = BeginsNone old new
 Begins (Some half) old new = BeginsCopy half old new
+
+-- a copy as it was before so many of its words were loaded, and the side with it
+abbrev pub unloaded : ℕ → HalfState → HalfState
+unloaded count half = record half { loaded = half.loaded - count }
+
+abbrev pub before : ℕ → HalfState → SideRun → SideRun
+before count half it = with_half (unloaded count half) it
+
+-- so many words of it were the last ones
+pub record IsLast (count : ℕ) (half : HalfState) (it : SideRun) : Type 0 where
+  pub ready : IsReady (before count half it)
+  pub none : it.half ≡ None
+  pub some : 0 < count
+  pub few : count ≤ half.loaded
+  pub whole : half.loaded ≡ half.count
 
 -- a copy that is handed back meets a fault
 pub record LoadStops (a b : SideState) : Type 0 where

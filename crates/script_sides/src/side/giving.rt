@@ -1,10 +1,8 @@
 //! How all that a proxy gives comes to its peer.
 
-ghost use Rattle.std.specs.Prelude.{◌≡◌, [], true, OnOk};
-ghost use Rattle.pair_runs.specs.Working.{Works};
-ghost use Rattle.script_sides.specs.Answering.{Stays};
-ghost use Rattle.script_sides.specs.Ready.{IsSound};
-ghost use Rattle.script_sides.specs.Sided.{state_of};
+ghost use Rattle.std.specs.Prelude.{◌≡◌, IfOk, OnOk};
+ghost use Rattle.script_sides.specs.Giving.{GivesNext, Gives};
+ghost use Rattle.script_sides.specs.Ready.{IsSound, IsReady};
 
 use super::ScriptSide;
 use std::alloc::AllocError;
@@ -16,17 +14,32 @@ impl ScriptSide {
     /// Only where memory runs out.
     pub(super) fn give(&mut self) -> Result<(), AllocError>
         requires { IsSound self.old }
-        ensures works { OnOk result (Works true (state_of self.old) (state_of self.new)) }
-        ensures silent { self.old.trail.now.live.items ≡ []
-            → state_of self.new ≡ state_of self.old }
-        ensures stays { OnOk result (Stays self.old self.new) }
+        ensures gives { OnOk result (Gives self.old self.new) }
+        ensures ready { OnOk result (IsReady self.new) }
         ensures wire { self.new.peer.wire ≡ self.old.peer.wire }
     {
         'items: loop {
-            match self.trail.peer_out() {
-                Some(item) => self.peer.given(item)?,
-                None => return Ok(()),
+            if !self.give_next()? {
+                return Ok(());
             }
+        }
+    }
+
+    /// Gives the peer the next item; false where there is none.
+    fn give_next(&mut self) -> Result<bool, AllocError>
+        requires { IsSound self.old }
+        ensures gives { IfOk result (λ more. GivesNext more self.old self.new) }
+        ensures sound { OnOk result (IsSound self.new) }
+        ensures wire { self.new.peer.wire ≡ self.old.peer.wire }
+    {
+        let item = self.trail.peer_out();
+        self.trail.stands();
+        match item {
+            Some(item) => {
+                self.peer.given(item)?;
+                Ok(true)
+            }
+            None => Ok(false),
         }
     }
 }
