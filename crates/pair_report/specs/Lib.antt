@@ -3,3 +3,4 @@ pub mod Meant
 pub mod Lines
 pub mod Passing
 pub mod Report
+pub mod Laws

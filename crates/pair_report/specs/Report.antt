@@ -2,12 +2,10 @@
 -- their link did. It is told by their records: what was received, the mirrors and the pipes are
 -- what the frames mean that a side accepted. The report is this project's own.
 use Rattle.std.specs.Prelude.{ℕ, zero, suc, ℤ, Bool, true, false, List, [], ◌∷◌, ◌++◌, length, reverse}
-use Rattle.std.specs.Prelude.{if◌then◌else◌}
 use Rattle.std.specs.List.{flat_map}
 use Rattle.wp_outside.specs.declared.kinds.Direction.TheVariants.{Up, Down}
 use Rattle.wp_outside.specs.declared.kinds.Side.{Side}
 use Rattle.wp_outside.specs.declared.kinds.Side.TheVariants.{Near, Far}
-use Rattle.wl_tables.specs.Ways.{own_way}
 use Rattle.wl_objects.specs.Entries.{first_objects}
 use Rattle.pair_model.specs.Lines.{Line, written_on, read_on}
 use Rattle.mirror_pools.specs.Mirrors.{MirrorsState}
@@ -15,6 +13,7 @@ use Rattle.pipe_relay.specs.Pipes.{Rids, has_rid}
 use Rattle.half_model.specs.Meaning.{Flow}
 use Rattle.half_model.specs.PeerState.{PeerState, flow_at}
 use Rattle.side_model.specs.Books.{Book, TrailRecord}
+use Rattle.pair_laws.specs.Passing.{passing}
 use Rattle.proxy_trail.specs.declared.pair.PairRecord.{PairRecord}
 use Rattle.pair_report.specs.declared.options.Got.{Got}
 use Rattle.pair_report.specs.declared.options.Got.TheVariants as got
@@ -23,7 +22,7 @@ use Rattle.pair_report.specs.Heard.{accepted_of}
 use Rattle.pair_report.specs.Meant.{Meant, Flows, meaning, on_flow, shut_from}
 use Rattle.pair_report.specs.Lines.{counts_lines, side_line, lane_line, mirror_line, pipe_line}
 use Rattle.pair_report.specs.Lines.{hex_line}
-use Rattle.pair_report.specs.Passing.{in_order, text_lines}
+use Rattle.pair_report.specs.Passing.{text_lines}
 
 -- ---- what is reported
 
@@ -57,8 +56,10 @@ counts_of pair = counts_lines pair.connections
     (length pair.far.book.trail.taken) (length (meant_at pair.far).messages)
 
 abbrev pub side_of : Side → TrailRecord → List ℕ
-side_of side trail =
-    side_line side (length trail.made) trail.acknowledged trail.accepted
+side_of side trail = side_line side (length trail.made) trail.acknowledged trail.accepted
+
+abbrev pub sides_of : PairTold → List ℕ
+sides_of pair = side_of Near pair.near.book.trail ++ side_of Far pair.far.book.trail
 
 -- what went over a connection: up from the near side to the far one, and down
 abbrev pub link_lines : ℕ → (near far : List Line) → List ℕ
@@ -73,11 +74,23 @@ links zero near far = []
 links (suc connection) near far =
     links connection near far ++ link_lines (suc connection) near far
 
--- ---- files and pipes
+abbrev pub links_of : PairTold → List ℕ
+links_of pair =
+    links pair.connections pair.near.book.trail.lines.rows pair.far.book.trail.lines.rows
 
--- the mirrors in this order
+-- ---- files
+
 abbrev pub mirror_lines : MirrorsState → List ℕ
 mirror_lines mirrors = flat_map (λ it. mirror_line it.0 it.1) mirrors
+
+-- the rids of the near side's files are above 0 and those of the far side's below it, and go from 0
+-- on; the far side has the mirrors of the near one's
+abbrev pub mirrors_of : PairTold → List ℕ
+mirrors_of pair =
+    mirror_lines (meant_at pair.far).mirrors
+    ++ mirror_lines (reverse (meant_at pair.near).mirrors)
+
+-- ---- pipes
 
 -- a pipe is reported where it was opened or something came of it
 abbrev pub begun : Rids → Flows → Flows
@@ -85,27 +98,35 @@ begun [] flows = flows
 begun (rid ∷ rids) flows = begun rids (on_flow rid (λ flow. flow) flows)
 
 -- the pipes of an owner's side, by what it accepted and what the other one did
-abbrev pub pipes_of : (owner other : SideTold) → Flows
-pipes_of owner other = begun (meant_at other).opened (meant_at owner).flows
+abbrev pub pipes_at : (owner other : SideTold) → Flows
+pipes_at owner other = begun (meant_at other).opened (meant_at owner).flows
+
+-- what the frames mean that a side accepted, with all pipes of its peer
+abbrev pub seen_at : (owner other : SideTold) → Meant
+seen_at owner other = record (meant_at owner) { flows = pipes_at owner other }
 
 -- of a pipe that its owner's side shut counts what the owner was given
-abbrev pub owner_line : Rids → PeerState → (one : ℤ × Flow) → List ℕ
+abbrev pub flow_shown : Bool → PeerState → ℤ → Flow → Flow
+flow_shown true peer rid flow = flow_at rid peer.pipes
+flow_shown false peer rid flow = flow
+
+abbrev pub owner_line : Rids → PeerState → ℤ × Flow → List ℕ
 owner_line shut peer one =
-    let is_shut = has_rid one.0 shut in
-    pipe_line one.0 is_shut (if is_shut then flow_at one.0 peer.pipes else one.1)
+    pipe_line one.0 (has_rid one.0 shut) (flow_shown (has_rid one.0 shut) peer one.0 one.1)
 
 abbrev pub pipe_lines : SideTold → Flows → List ℕ
 pipe_lines owner flows =
     flat_map (owner_line (shut_from owner.book.trail.made []) owner.peer) flows
 
+abbrev pub pipes_of : PairTold → List ℕ
+pipes_of pair =
+    pipe_lines pair.near (pipes_at pair.near pair.far)
+    ++ pipe_lines pair.far (reverse (pipes_at pair.far pair.near))
+
+-- ---- all of this
+
 abbrev pub long_of : PairTold → List ℕ
-long_of pair =
-    side_of Near pair.near.book.trail ++ (side_of Far pair.far.book.trail
-    ++ (links pair.connections pair.near.book.trail.lines.rows pair.far.book.trail.lines.rows
-    ++ (mirror_lines (meant_at pair.far).mirrors
-    ++ (mirror_lines (reverse (meant_at pair.near).mirrors)
-    ++ (pipe_lines pair.near (pipes_of pair.near pair.far)
-    ++ pipe_lines pair.far (reverse (pipes_of pair.far pair.near)))))))
+long_of pair = sides_of pair ++ (links_of pair ++ (mirrors_of pair ++ pipes_of pair))
 
 abbrev pub long_if : Bool → PairTold → List ℕ
 long_if true pair = long_of pair
@@ -113,14 +134,15 @@ long_if false pair = []
 
 -- ---- messages
 
--- the messages that the peer beside a side received
+-- the messages that the peer beside a side received, with the rids that they take
+abbrev pub got_of : Got → Side → Book → List (List ℕ) → List ℤ → List ℕ
+got_of got.Hexadecimal side book messages rids = flat_map (hex_line side) messages
+got_of got.Text side book messages rids =
+    text_lines side (passing side book.order book.trail.taken messages) first_objects rids
+got_of got.LeftOut side book messages rids = []
+
 abbrev pub got_at : Got → Side → SideTold → List ℕ
-got_at got.Hexadecimal side it = flat_map (hex_line side) (meant_at it).messages
-got_at got.Text side it =
-    text_lines side
-    (in_order (own_way side) it.book.order it.book.trail.taken (meant_at it).messages)
-    first_objects (meant_at it).rids
-got_at got.LeftOut side it = []
+got_at got side it = got_of got side it.book (meant_at it).messages (meant_at it).rids
 
 -- the report without its last line
 abbrev pub report_of : ReportOptions → PairTold → List ℕ

@@ -5,6 +5,7 @@
 mod flows;
 mod got;
 mod heard;
+mod laws;
 mod lines;
 mod long;
 mod meaning;
@@ -16,5 +17,6 @@ mod pipes;
 mod report;
 mod sums;
 
+pub use laws::{accepted_is_told, files_and_pipes_are_meant};
 pub use options::{Got, ReportOptions};
 pub use report::report;

@@ -1,12 +1,15 @@
 //! What a long report tells of the proxies and their link.
 
-ghost use Rattle.std.specs.Prelude.{◌≡◌, ◌++◌, map, OnOk, reverse};
-ghost use Rattle.wp_outside.specs.declared.kinds.Side.{Side};
+ghost use Rattle.std.specs.Prelude.{◌≡◌, ◌++◌, length, map, OnOk, reverse};
+ghost use Rattle.wp_outside.specs.declared.kinds.Direction.TheVariants.{Up, Down};
 ghost use Rattle.pair_model.specs.Lines.{Rising};
 ghost use Rattle.trail_records.specs.Noting.{trail_of};
 ghost use Rattle.trail_records.specs.Rows.{line_of};
-ghost use Rattle.pair_report.specs.Meant.{shut_from};
-ghost use Rattle.pair_report.specs.Report.{side_of, links, link_lines, mirror_lines, pipe_lines};
+ghost use Rattle.std.specs.List.{flat_map};
+ghost use Rattle.pair_model.specs.Lines.{written_on, read_on};
+ghost use Rattle.pair_audit.specs.Walking.{rows_behind};
+ghost use Rattle.pair_report.specs.Lines.{lane_line, mirror_line};
+ghost use Rattle.pair_report.specs.Report.{side_of, links, mirror_lines, owner_line};
 
 use crate::flows::PipeGiven;
 use crate::lines::{lane_line, mirror_line, side_line};
@@ -71,7 +74,12 @@ struct LineCounts {
 }
 
 // The counts of the first line, if it is that of this connection, and the lines behind it.
-fn first_counts(rows: &[LineRecord], connection: u32) -> (LineCounts, &[LineRecord]) {
+fn first_counts(rows: &[LineRecord], connection: u32) -> (LineCounts, &[LineRecord])
+    requires { Rising connection (map line_of rows.now) }
+    ensures written { result.0.written ≡ length (written_on connection (map line_of rows.now)) }
+    ensures read { result.0.read ≡ length (read_on connection (map line_of rows.now)) }
+    ensures rest { map line_of result.1.now ≡ rows_behind connection (map line_of rows.now) }
+{
     let none = LineCounts {
         written: 0,
         read: 0,
@@ -98,8 +106,8 @@ fn put_link(
     far: LineCounts,
 ) -> Result<(), AllocError>
     ensures { OnOk result (out.new ≡ out.old
-        ++ (lane_line connection Direction.Up near.written far.read
-        ++ lane_line connection Direction.Down far.written near.read)) }
+        ++ (lane_line connection Up near.written far.read
+        ++ lane_line connection Down far.written near.read)) }
 {
     let up = lane_line(alloc, connection, Direction::Up, near.written, far.read)?;
     let down = lane_line(alloc, connection, Direction::Down, far.written, near.read)?;

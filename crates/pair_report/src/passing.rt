@@ -1,14 +1,14 @@
 //! The messages that a peer received, as text, by the order in which messages passed.
 
-ghost use Rattle.std.specs.Prelude.{◌≡◌, ◌++◌, OnOk, drop};
-ghost use Rattle.wl_tables.specs.declared.way.Way.{Way};
-ghost use Rattle.wl_tables.specs.Ways.{own_way};
+ghost use Rattle.std.specs.Prelude.{◌≡◌, ◌++◌, [], ◌∷◌, Some, drop, IfOk, OnOk};
 ghost use Rattle.wl_objects.specs.Entries.{first_objects};
 ghost use Rattle.wl_objects.specs.Tracking.{step};
-ghost use Rattle.wl_text.specs.Text.{text_of, CanPrint};
+ghost use Rattle.wl_text.specs.Text.{CanPrint, text_of};
 ghost use Rattle.pair_report.specs.Lines.{got_line};
-ghost use Rattle.pair_report.specs.Passing.{in_order, is_way, text_lines, handles_in, rids_behind};
-ghost use Rattle.pair_report.specs.Passing.{passing_line};
+ghost use Rattle.pair_laws.specs.Passing.{is_own_way, passing};
+ghost use Rattle.pair_report.specs.Passing.{first_rid, handles_in, rids_behind};
+ghost use Rattle.pair_report.specs.Passing.{interface_told, objects_behind, line_if, rids_if};
+ghost use Rattle.pair_report.specs.Passing.{text_lines, objects_first, line_first, rids_first};
 
 use crate::lines::got_prefix;
 use std::alloc::{AllocError, Global};
@@ -33,30 +33,35 @@ pub(crate) fn put_text_lines(
     rids: &[i32],
 ) -> Result<(), AllocError>
     ensures { OnOk result (out.new ≡ out.old ++ text_lines side
-        (in_order (own_way side) order.now taken.now received.now) first_objects rids.now) }
+        (passing side order.now taken.now received.now) first_objects rids.now) }
 {
-    let own = Way::of_peer(side);
     let mut objects = Objects::new(alloc)?;
     let mut taken_left = taken;
     let mut received_left = received;
     let mut rids_left = rids;
     for way in order {
-        if *way == own {
-            taken_left = track_first(&mut objects, own, taken_left)?;
+        if is_own_way(side, *way) {
+            taken_left = track_first(&mut objects, *way, taken_left)?;
         } else {
-            let (behind, rids_behind) = put_first(
-                out,
-                side,
-                *way,
-                &mut objects,
-                received_left,
-                rids_left,
-            )?;
+            let (behind, rids_behind) =
+                put_first(out, side, *way, &mut objects, received_left, rids_left)?;
             received_left = behind;
             rids_left = rids_behind;
         }
     }
     Ok(())
+}
+
+// Whether messages of this way are those of the side's own peer.
+fn is_own_way(side: Side, way: Way) -> bool
+    ensures { result ≡ is_own_way side way }
+{
+    match (side, way) {
+        (Side::Near, Way::Request) => true,
+        (Side::Near, Way::Event) => false,
+        (Side::Far, Way::Request) => false,
+        (Side::Far, Way::Event) => true,
+    }
 }
 
 // Tracks the first message, if there is one, and answers those behind it.
@@ -86,7 +91,15 @@ fn put_first<'a>(
     objects: &mut Objects,
     messages: &'a [Message],
     rids: &'a [i32],
-) -> Result<(&'a [Message], &'a [i32]), AllocError> {
+) -> Result<(&'a [Message], &'a [i32]), AllocError>
+    ensures behind { IfOk result (λ left. left.0.now ≡ drop 1 messages.now) }
+    ensures rids { IfOk result (λ left. left.1.now
+        ≡ rids_first way messages.now objects.old.tracked rids.now) }
+    ensures line { OnOk result (out.new ≡ out.old
+        ++ line_first side way messages.now objects.old.tracked rids.now) }
+    ensures objects { OnOk result (objects.new.tracked
+        ≡ objects_first way messages.now objects.old.tracked) }
+{
     match messages {
         [] => Ok((messages, rids)),
         [message, behind @ ..] => {
@@ -104,7 +117,16 @@ fn put_received<'a>(
     objects: &mut Objects,
     message: &Message,
     rids: &'a [i32],
-) -> Result<&'a [i32], AllocError> {
+) -> Result<&'a [i32], AllocError>
+    ensures rids { IfOk result (λ left. left.now
+        ≡ rids_if (interface_told (step way objects.old.tracked message.now)) way message.now
+        rids.now) }
+    ensures line { OnOk result (out.new ≡ out.old
+        ++ line_if (interface_told (step way objects.old.tracked message.now)) side way
+        message.now rids.now) }
+    ensures objects { OnOk result (objects.new.tracked
+        ≡ objects_behind (step way objects.old.tracked message.now) objects.old.tracked) }
+{
     match track(objects, way, message)? {
         None => Ok(rids),
         Some(interface) => {
@@ -120,7 +142,12 @@ fn track(
     objects: &mut Objects,
     way: Way,
     message: &Message,
-) -> Result<Option<Interface>, AllocError> {
+) -> Result<Option<Interface>, AllocError>
+    ensures told { IfOk result (λ told. told
+        ≡ interface_told (step way objects.old.tracked message.now)) }
+    ensures objects { OnOk result (objects.new.tracked
+        ≡ objects_behind (step way objects.old.tracked message.now) objects.old.tracked) }
+{
     match objects.track(way, message) {
         Ok(interface) => Ok(Some(interface)),
         Err(PassFault::Object(_)) => Ok(None),
@@ -142,10 +169,12 @@ fn first_rid(rids: &[i32]) -> i32
 fn rids_behind(kind: Option<HandleKind>, rids: &[i32]) -> &[i32]
     ensures { result.now ≡ rids_behind kind rids.now }
 {
-    match (kind, rids) {
-        (None, _) => rids,
-        (Some(_), []) => rids,
-        (Some(_), [_, behind @ ..]) => behind,
+    match kind {
+        None => rids,
+        Some(_) => match rids {
+            [] => rids,
+            [_, behind @ ..] => behind,
+        },
     }
 }
 
@@ -158,11 +187,31 @@ fn put_line(
     message: &Message,
     kind: Option<HandleKind>,
     rid: i32,
-) -> Result<(), AllocError> {
+) -> Result<(), AllocError>
+    requires { CanPrint interface way message.now (handles_in kind (rid ∷ [])) }
+    ensures { OnOk result (out.new ≡ out.old
+        ++ got_line side (text_of interface way message.now (handles_in kind (rid ∷ [])))) }
+{
     out.append(got_prefix(side))?;
-    match kind {
-        None => append_message(out, interface, way, message, &[])?,
-        Some(_) => append_message(out, interface, way, message, &[rid])?,
-    }
+    put_text(out, way, interface, message, kind, rid)?;
     out.push(b'\n')
+}
+
+// Adds the text of a message that passed, with this rid if it carries a handle.
+fn put_text(
+    out: &mut Text,
+    way: Way,
+    interface: Interface,
+    message: &Message,
+    kind: Option<HandleKind>,
+    rid: i32,
+) -> Result<(), AllocError>
+    requires { CanPrint interface way message.now (handles_in kind (rid ∷ [])) }
+    ensures { OnOk result (out.new ≡ out.old
+        ++ text_of interface way message.now (handles_in kind (rid ∷ []))) }
+{
+    match kind {
+        None => append_message(out, interface, way, message, &[]),
+        Some(_) => append_message(out, interface, way, message, &[rid]),
+    }
 }

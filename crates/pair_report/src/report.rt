@@ -1,7 +1,9 @@
 //! The report of a pair.
 
 ghost use Rattle.std.specs.Prelude.{◌≡◌, ◌++◌, IfOk, OnOk, length};
-ghost use Rattle.pair_report.specs.Report.{report_of, told_of};
+ghost use Rattle.pair_report.specs.Lines.{counts_lines};
+ghost use Rattle.pair_report.specs.Report.{report_of, told_of, seen_at, sides_of, links_of};
+ghost use Rattle.pair_report.specs.Report.{mirrors_of, pipes_of, long_of, got_of};
 
 use crate::got::put_hex_lines;
 use crate::heard::meaning_of;
@@ -18,31 +20,51 @@ use std::alloc::{AllocError, Global};
 use wl_wire::Text;
 use wp_outside::Side;
 
-/// The report of a pair, without its last line: how many connections there were, how many messages
-/// both peers sent and received; if it is long, what the proxies and their link did; and the
-/// messages that were received.
+/// The report of a pair, without its last line: how many connections there were and how many messages
+/// both peers sent and received; if it is long, what the proxies and their link did; and the messages
+/// that were received.
+///
+/// What was received, the mirrors and the pipes are what the frames mean that a side accepted, which
+/// may be more than its peer was given where the side has failed.
 ///
 /// # Errors
 /// Only where memory runs out.
-pub fn report(alloc: Global, options: ReportOptions, pair: &PairRecord) -> Result<Text, AllocError>
+pub fn report(
+    alloc: Global,
+    options: ReportOptions,
+    pair: &PairRecord,
+) -> Result<Text, AllocError>
     ensures { IfOk result (λ text. text ≡ report_of options (told_of pair.now)) }
+{
+    let seen = seen_by(alloc, pair)?;
+    let mut out = Text::new(alloc);
+    put_counts(alloc, &mut out, pair, seen.near.messages.len(), seen.far.messages.len())?;
+    if options.long {
+        put_long(alloc, &mut out, pair, &seen)?;
+    }
+    put_got(alloc, &mut out, options.got, Side::Far, &pair.far, &seen.far)?;
+    put_got(alloc, &mut out, options.got, Side::Near, &pair.near, &seen.near)?;
+    Ok(out)
+}
+
+/// What the frames mean that both sides accepted, with all pipes that are reported.
+#[derive(Drop)]
+struct Seen {
+    near: Meaning,
+    far: Meaning,
+}
+
+fn seen_by(alloc: Global, pair: &PairRecord) -> Result<Seen, AllocError>
+    ensures near { IfOk result (λ seen. seen.near
+        ≡ seen_at (told_of pair.now).near (told_of pair.now).far) }
+    ensures far { IfOk result (λ seen. seen.far
+        ≡ seen_at (told_of pair.now).far (told_of pair.now).near) }
 {
     let mut near = meaning_of(alloc, pair.near.record())?;
     let mut far = meaning_of(alloc, pair.far.record())?;
-    let mut out = Text::new(alloc);
-    put_counts(
-        alloc,
-        &mut out,
-        pair,
-        near.messages.len(),
-        far.messages.len(),
-    )?;
-    if options.long {
-        put_long(alloc, &mut out, pair, &mut near, &mut far)?;
-    }
-    put_got(alloc, &mut out, options.got, Side::Far, &pair.far, &far)?;
-    put_got(alloc, &mut out, options.got, Side::Near, &pair.near, &near)?;
-    Ok(out)
+    begin_all(&mut near.flows, &far.opened)?;
+    begin_all(&mut far.flows, &near.opened)?;
+    Ok(Seen { near, far })
 }
 
 // Adds the counts of messages.
@@ -52,7 +74,11 @@ fn put_counts(
     pair: &PairRecord,
     down_received: usize,
     up_received: usize,
-) -> Result<(), AllocError> {
+) -> Result<(), AllocError>
+    ensures { OnOk result (out.new ≡ out.old ++ counts_lines pair.now.connections
+        (length pair.now.near.book.trail.taken) down_received
+        (length pair.now.far.book.trail.taken) up_received) }
+{
     let line = counts_lines(
         alloc,
         pair.connections,
@@ -69,36 +95,53 @@ fn put_long(
     alloc: Global,
     out: &mut Text,
     pair: &PairRecord,
-    near: &mut Meaning,
-    far: &mut Meaning,
-) -> Result<(), AllocError> {
-    let near_record = pair.near.record();
-    let far_record = pair.far.record();
-    put_side(alloc, out, Side::Near, near_record)?;
-    put_side(alloc, out, Side::Far, far_record)?;
+    seen: &Seen,
+) -> Result<(), AllocError>
+    requires near { seen.now.near ≡ seen_at (told_of pair.now).near (told_of pair.now).far }
+    requires far { seen.now.far ≡ seen_at (told_of pair.now).far (told_of pair.now).near }
+    ensures { OnOk result (out.new ≡ out.old ++ long_of (told_of pair.now)) }
+{
+    put_sides(alloc, out, pair)?;
+    put_all_links(alloc, out, pair)?;
+    put_mirrors_up(alloc, out, seen.far.mirrors.as_map())?;
+    put_mirrors_down(alloc, out, seen.near.mirrors.as_map())?;
+    put_pipes(alloc, out, pair, seen)
+}
+
+// Adds the counts of frames.
+fn put_sides(alloc: Global, out: &mut Text, pair: &PairRecord) -> Result<(), AllocError>
+    ensures { OnOk result (out.new ≡ out.old ++ sides_of (told_of pair.now)) }
+{
+    put_side(alloc, out, Side::Near, pair.near.record())?;
+    put_side(alloc, out, Side::Far, pair.far.record())
+}
+
+// Adds what went over the link.
+fn put_all_links(alloc: Global, out: &mut Text, pair: &PairRecord) -> Result<(), AllocError>
+    ensures { OnOk result (out.new ≡ out.old ++ links_of (told_of pair.now)) }
+{
     pair.near.stands();
     pair.far.stands();
-    put_links(
-        alloc,
-        out,
-        pair.connections,
-        near_record.lines.as_slice(),
-        far_record.lines.as_slice(),
-    )?;
-    put_mirrors_up(alloc, out, far.mirrors.as_map())?;
-    put_mirrors_down(alloc, out, near.mirrors.as_map())?;
-    begin_all(&mut near.flows, &far.opened)?;
-    begin_all(&mut far.flows, &near.opened)?;
-    let near_shut = shut_in(alloc, near_record.made.as_slice())?;
-    put_pipes_up(
-        alloc,
-        out,
-        &near_shut,
-        &pair.application,
-        near.flows.as_map(),
-    )?;
-    let far_shut = shut_in(alloc, far_record.made.as_slice())?;
-    put_pipes_down(alloc, out, &far_shut, &pair.compositor, far.flows.as_map())
+    let near = &pair.near.record().lines;
+    let far = &pair.far.record().lines;
+    put_links(alloc, out, pair.connections, near.as_slice(), far.as_slice())
+}
+
+// Adds the pipes.
+fn put_pipes(
+    alloc: Global,
+    out: &mut Text,
+    pair: &PairRecord,
+    seen: &Seen,
+) -> Result<(), AllocError>
+    requires near { seen.now.near ≡ seen_at (told_of pair.now).near (told_of pair.now).far }
+    requires far { seen.now.far ≡ seen_at (told_of pair.now).far (told_of pair.now).near }
+    ensures { OnOk result (out.new ≡ out.old ++ pipes_of (told_of pair.now)) }
+{
+    let shut = shut_in(alloc, pair.near.record().made.as_slice())?;
+    put_pipes_up(alloc, out, &shut, &pair.application, seen.near.flows.as_map())?;
+    let shut = shut_in(alloc, pair.far.record().made.as_slice())?;
+    put_pipes_down(alloc, out, &shut, &pair.compositor, seen.far.flows.as_map())
 }
 
 // Adds the messages that the peer beside a side received.
@@ -109,7 +152,10 @@ fn put_got(
     side: Side,
     trail: &Trail,
     meaning: &Meaning,
-) -> Result<(), AllocError> {
+) -> Result<(), AllocError>
+    ensures { OnOk result (out.new ≡ out.old
+        ++ got_of got side trail.now.book meaning.now.messages meaning.now.rids) }
+{
     match got {
         Got::Hexadecimal => put_hex_lines(out, side, meaning.messages.as_slice()),
         Got::Text => put_text_lines(
