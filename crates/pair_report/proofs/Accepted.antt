@@ -65,14 +65,14 @@ no_bytes = frames_none [] (front-short [] (omega arith))
 -- ---- by connection
 
 -- the frames that the bytes of each connection are computed to be
-abbrev computed : List Line → ℕ → List Frame
+abbrev pub computed : List Line → ℕ → List Frame
 computed rows c = frames_in (read_on c rows)
 
 -- up to a connection they begin with those seen, and are just these while reading did not stop
-record Begins (rows : List Line) (seen : ℕ → List Frame) (stop : Option Stop) (c : ℕ) : Type 0 where
-  more : List Frame
-  parts : accepted_below (computed rows) c ≡ accepted_below seen c ++ more
-  until : (more ≡ []) ⊎ ((it : Stop) × (stop ≡ Some it) × (it.connection < c))
+pub record Begins (rows : List Line) (seen : ℕ → List Frame) (stop : Option Stop) (c : ℕ) : Type 0 where
+  pub more : List Frame
+  pub parts : accepted_below (computed rows) c ≡ accepted_below seen c ++ more
+  pub until : (more ≡ []) ⊎ ((it : Stop) × (stop ≡ Some it) × (it.connection < c))
 
 nothing_here : (stop : Option ℕ) (read : List ℕ) (seen : List Frame) → Reads stop read seen → read ≡ [] → counted (frames_in read) ≡ counted seen
 nothing_here stop read seen reads none =
@@ -82,7 +82,6 @@ module _ (rows : List Line) (seen : ℕ → List Frame) (stop : Option Stop)
     (reads : (c : ℕ) → Reads (stop_on c stop) (read_on c rows) (seen c))
     (waits : (c : ℕ) → Waits (stop_on c stop) (read_on c rows) (seen c))
     (ends : Ends stop rows) where
-
   -- where as many were counted as were seen
   begins_same : (c : ℕ) (b : Begins rows seen stop c) → counted (computed rows c) ≡ counted (seen c)
       → b.more ≡ [] → Begins rows seen stop (suc c)
@@ -238,4 +237,4 @@ accepted_is_told side token book fault law =
     let parts : counted_on rows ≡ accepted_in law.story ++ begins.more =
     sym (by_lines 1 rows turn.bound law.wire.numbers) ∙ begins.parts ∙ ap (λ (fs : List Frame). fs ++ begins.more) same in
     ap (take book.trail.accepted) parts
-    ∙ take_at (accepted_in law.story) begins.more book.trail.accepted law.tells.accepted
+    ∙ take_at (accepted_in law.story) begins.more book.trail.accepted (sym law.tells.accepted)

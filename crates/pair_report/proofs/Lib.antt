@@ -1,6 +1,7 @@
 pub mod FrameRows
 pub mod Takings
 pub mod FlowSteps
+pub mod MirrorSteps
 pub mod Printable
 pub mod Ordered
 pub mod LinkWalk

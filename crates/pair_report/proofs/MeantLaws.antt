@@ -2,6 +2,8 @@
 use Rattle.std.proofs.Common.{◌≡◌, ℕ, ℤ, Bool, true, false, cond, List, [], ◌∷◌, ◌++◌, Option, Some, None, refl, sym, ap, ◌∙◌, int_cmp}
 use Rattle.std.proofs.lemmas.Cmp.{int_cmp_total}
 use Rattle.std.specs.Bool.{if◌then◌else◌}
+use Rattle.std.specs.BTreeMap.{is_at}
+use Rattle.std.specs.Map.{lookup}
 use Rattle.std.specs.Option.{unwrap_or}
 use Rattle.std.specs.Ordering.{int_eq, is_eq}
 use Rattle.std.proofs.lemmas.Map.Lookups.{exact_signed}
@@ -31,7 +33,7 @@ changed_at other rid change flows =
     ∙ by (int_eq other rid) refl
   where
     by : (b : Bool) → int_eq other rid ≡ b
-        → unwrap_or (cond b (Some (change (flow_at other flows))) _) no_flow
+        → unwrap_or (cond b (Some (change (flow_at other flows))) (lookup (is_at (int_cmp rid)) flows)) no_flow
         ≡ (if b then change (flow_at rid flows) else flow_at rid flows)
     by true is = ap (λ (k : ℤ). change (flow_at k flows)) (same other rid is)
     by false is = refl

@@ -26,7 +26,7 @@ own_step side way order (message ∷ taken) received tracked rids own =
     let behind : Tracked = objects_behind (step way tracked message) tracked in
     ap (λ (b : Bool). text_lines side (if b then (way, message) ∷ others else later) tracked rids) own
     ∙ ap (λ (b : Bool). if b then text_lines side others behind rids
-          else line_if told side way message rids ++ text_lines side others behind (rids_if told way message rids)) own
+    else line_if told side way message rids ++ text_lines side others behind (rids_if told way message rids)) own
 
 -- the next one was received
 pub other_step : (side : Side) (way : Way) (order : List Way) (taken received : List (List ℕ)) (tracked : Tracked) (rids : List ℤ)
@@ -44,4 +44,4 @@ other_step side way order taken (message ∷ received) tracked rids other =
     let behind : Tracked = objects_behind (step way tracked message) tracked in
     ap (λ (b : Bool). text_lines side (if b then later else (way, message) ∷ others) tracked rids) other
     ∙ ap (λ (b : Bool). if b then text_lines side others behind rids
-          else line_if told side way message rids ++ text_lines side others behind (rids_if told way message rids)) other
+    else line_if told side way message rids ++ text_lines side others behind (rids_if told way message rids)) other

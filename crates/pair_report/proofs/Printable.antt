@@ -1,7 +1,7 @@
 -- A message that passes can be printed: it is one of the table's, its arguments are good, and it
 -- carries one handle at most.
-use Rattle.std.proofs.Common.{◌≡◌, ℕ, zero, suc, ℤ, List, [], ◌∷◌, length, filter_map, nat_le, drop, Bool, true, false, Option, Some, None, Result, Ok, Err, option_map, option_and_then, refl, sym, ap, ◌∙◌, subst, arith}
-use Rattle.std.proofs.lemmas.Bool.{and_parts}
+use Rattle.std.proofs.Common.{◌≡◌, ℕ, zero, suc, ◌≤◌, ℤ, List, [], ◌∷◌, length, filter_map, nat_le, drop, Bool, true, false, Option, Some, None, Result, Ok, Err, option_map, option_and_then, refl, sym, ap, ◌∙◌, subst, arith}
+use Rattle.std.proofs.lemmas.Bool.{and_parts, leb-true}
 use Rattle.wl_text.proofs.FrontLaws.{some_same}
 use Rattle.std.specs.List.{slice_get, list_all}
 use Rattle.wp_outside.specs.declared.kinds.HandleKind.{HandleKind}
@@ -18,6 +18,7 @@ use Rattle.wl_tables.specs.declared.interface.Interface.TheVariants.{WlDisplay, 
 use Rattle.wl_tables.specs.declared.way.Way.{Way}
 use Rattle.wl_tables.specs.declared.way.Way.TheVariants.{Request, Event}
 use Rattle.wl_tables.proofs.Ways.{way_again}
+use Rattle.wl_objects.specs.Answering.{interface_in}
 use Rattle.wl_objects.specs.Entries.{Tracked}
 use Rattle.wl_objects.specs.ObjectLaws.{IsByTheTable}
 use Rattle.wl_objects.specs.Tracking.{Admission, step}
@@ -99,7 +100,8 @@ passes_at (first ∷ rows) (suc place) row at all = passes_at rows place row at 
 counted_handles : (carried : List HandleKind) (rids : List ℤ) → nat_le (length carried) 1 ≡ true → length (handles_in (slice_get carried 0) rids) ≡ length carried
 counted_handles [] rids e = refl
 counted_handles (kind ∷ []) rids e = refl
-counted_handles (kind ∷ other ∷ more) rids e = absurd (cc)
+counted_handles (kind ∷ other ∷ more) rids e =
+    let few : length (kind ∷ other ∷ more) ≤ 1 = leb-true (length (kind ∷ other ∷ more)) 1 e in absurd (omega (arith, few))
 
 row_kind : (row : Option MessageRow) (it : MessageRow) → row ≡ Some it → option_and_then (λ (r : MessageRow). handle_in r.places) row ≡ handle_in it.places
 row_kind row it same = ap (λ (r : Option MessageRow). option_and_then (λ (m : MessageRow). handle_in m.places) r) same
@@ -132,3 +134,10 @@ can_print way tracked message interface rids e =
     let told = told_ok (step way tracked message) interface e in
     subst (λ (i : Interface). CanPrint i way message (handles_in (handle_kind i (is_event way) (opcode_of message)) rids)) told.2
     (printed way message told.0 rids (passed_by_the_table way tracked message told.0 told.1))
+
+-- what tracking told
+pub told_from : (told : Result Admission ObjectFault) (interface : Interface) (after : Tracked) → interface_in told ≡ Ok (interface, after) → Some interface ≡ interface_told told
+told_from (Ok done) interface after e =
+    let same : (interface, after) ≡ (done.passed.interface, done.objects) = cc in
+    ap (λ (it : Interface × Tracked). Some it.0) same
+told_from (Err fault) interface after e = absurd (let never : ⊥ = cc in never)

@@ -7,7 +7,6 @@ use Rattle.wp_outside.specs.declared.kinds.Direction.{Direction}
 use Rattle.wp_outside.specs.declared.kinds.Direction.TheVariants.{Up, Down}
 use Rattle.wp_outside.specs.declared.kinds.Side.{Side}
 use Rattle.wp_outside.specs.declared.kinds.Side.TheVariants.{Near, Far}
-use Rattle.half_model.specs.Meaning.{Flow}
 use Rattle.mirror_pools.specs.Mirrors.{MirrorState}
 
 -- ---- counts
@@ -58,12 +57,12 @@ state_word has_ended is_shut =
     if has_ended then codes "ended" else (if is_shut then codes "shut" else codes "open")
 
 -- a pipe: how many bytes its owner was given, and their sum
-unfoldable pub pipe_line : ℤ → Bool → Flow → List ℕ
-pipe_line rid is_shut it =
+unfoldable pub pipe_line : ℤ → Bool → List ℕ → Bool → List ℕ
+pipe_line rid is_shut bytes has_ended =
     codes "pipe " ++ (signed_decimal rid
-    ++ (codes " bytes " ++ (decimal (length it.bytes)
-    ++ (codes " sum " ++ (decimal (sum it.bytes)
-    ++ (codes " " ++ (state_word it.ended is_shut ++ (10 ∷ []))))))))
+    ++ (codes " bytes " ++ (decimal (length bytes)
+    ++ (codes " sum " ++ (decimal (sum bytes)
+    ++ (codes " " ++ (state_word has_ended is_shut ++ (10 ∷ []))))))))
 
 -- ---- messages
 

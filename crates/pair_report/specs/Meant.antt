@@ -1,8 +1,9 @@
 -- What the frames of the other side mean for a report: the messages of the Wayland protocol in
 -- them, the rids that these carry, the mirrors of the other side's files, and what came of pipes;
 -- all but the messages is this project's own.
-use Rattle.std.specs.Prelude.{ℕ, true, ℤ, List, [], ◌∷◌, ◌++◌}
-use Rattle.std.specs.BTreeMap.{insert_entry}
+use Rattle.std.specs.Prelude.{ℕ, true, ℤ, List, [], ◌∷◌, ◌++◌, Option, Some, None}
+use Rattle.std.specs.BTreeMap.{insert_entry, is_at}
+use Rattle.std.specs.Map.{lookup}
 use Rattle.std.specs.Ordering.{int_cmp}
 use Rattle.std.specs.List.{flat_map}
 use Rattle.wl_wire.specs.Wire.{cut}
@@ -14,7 +15,7 @@ use Rattle.transfer_frames.specs.declared.frame.Frame.TheVariants.{PipeShutW}
 use Rattle.mirror_pools.specs.Laws.{after_frames}
 use Rattle.mirror_pools.specs.Mirrors.{MirrorsState, with_opened, with_grown, with_filled}
 use Rattle.pipe_relay.specs.Pipes.{Rids, with_rid}
-use Rattle.half_model.specs.Meaning.{Flow}
+use Rattle.half_model.specs.Meaning.{Flow, no_flow}
 use Rattle.half_model.specs.PeerState.{flow_at}
 use Rattle.half_model.specs.Story.{messages_in}
 
@@ -70,6 +71,14 @@ with_flow frame flows = flows
 abbrev pub flows_from : List Frame → Flows → Flows
 flows_from [] flows = flows
 flows_from (frame ∷ frames) flows = flows_from frames (with_flow frame flows)
+
+-- a pipe that is not among them begins
+abbrev pub begun_if : Option Flow → ℤ → Flows → Flows
+begun_if None rid flows = insert_entry int_cmp flows rid no_flow
+begun_if (Some flow) rid flows = flows
+
+abbrev pub with_pipe : ℤ → Flows → Flows
+with_pipe rid flows = begun_if (lookup (is_at (int_cmp rid)) flows) rid flows
 
 -- ---- all of it
 

@@ -19,7 +19,7 @@ use Rattle.pair_report.specs.declared.options.Got.{Got}
 use Rattle.pair_report.specs.declared.options.Got.TheVariants as got
 use Rattle.pair_report.specs.declared.options.ReportOptions.{ReportOptions}
 use Rattle.pair_report.specs.Heard.{accepted_of}
-use Rattle.pair_report.specs.Meant.{Meant, Flows, meaning, on_flow, shut_from}
+use Rattle.pair_report.specs.Meant.{Meant, Flows, meaning, with_pipe, shut_from}
 use Rattle.pair_report.specs.Lines.{counts_lines, side_line, lane_line, mirror_line, pipe_line}
 use Rattle.pair_report.specs.Lines.{hex_line}
 use Rattle.pair_report.specs.Passing.{text_lines}
@@ -95,7 +95,7 @@ mirrors_of pair =
 -- a pipe is reported where it was opened or something came of it
 abbrev pub begun : Rids → Flows → Flows
 begun [] flows = flows
-begun (rid ∷ rids) flows = begun rids (on_flow rid (λ flow. flow) flows)
+begun (rid ∷ rids) flows = begun rids (with_pipe rid flows)
 
 -- the pipes of an owner's side, by what it accepted and what the other one did
 abbrev pub pipes_at : (owner other : SideTold) → Flows
@@ -112,7 +112,9 @@ flow_shown false peer rid flow = flow
 
 abbrev pub owner_line : Rids → PeerState → ℤ × Flow → List ℕ
 owner_line shut peer one =
-    pipe_line one.0 (has_rid one.0 shut) (flow_shown (has_rid one.0 shut) peer one.0 one.1)
+    let is_shut = has_rid one.0 shut in
+    let shown = flow_shown is_shut peer one.0 one.1 in
+    pipe_line one.0 is_shut shown.bytes shown.ended
 
 abbrev pub pipe_lines : SideTold → Flows → List ℕ
 pipe_lines owner flows =

@@ -5,7 +5,7 @@ ghost use Rattle.std.specs.BTreeMap.{insert_entry, is_at};
 ghost use Rattle.std.specs.Map.{lookup};
 ghost use Rattle.std.specs.Ordering.{int_cmp};
 ghost use Rattle.half_model.specs.Meaning.{no_flow};
-ghost use Rattle.pair_report.specs.Meant.{on_flow, with_piece, with_end};
+ghost use Rattle.pair_report.specs.Meant.{on_flow, with_piece, with_end, with_pipe};
 
 use std::alloc::{AllocError, Global};
 use std::collections::BTreeMap;
@@ -124,9 +124,9 @@ impl FlowMap {
         }
     }
 
-    /// A pipe is there.
+    /// A pipe is there, if none was.
     pub(crate) fn begin(&mut self, rid: i32) -> Result<(), AllocError>
-        ensures { OnOk result (self.new ≡ on_flow rid (λ flow. flow) self.old) }
+        ensures { OnOk result (self.new ≡ with_pipe rid self.old) }
     {
         match self.flows.get(&rid) {
             Some(_) => Ok(()),

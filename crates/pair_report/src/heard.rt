@@ -18,16 +18,11 @@ use transfer_frames::{DecodeFault, Frame, FrameRole, first_frame, part_of};
 ///
 /// # Errors
 /// Only where memory runs out.
-pub(crate) fn meaning_of(alloc: Global, record: &TrailRecord) -> Result<Meaning, AllocError>
-    ensures { IfOk result (λ it. it ≡ meaning (accepted_of (trail_of record.now))) }
+pub(crate) fn meaning_of(alloc: Global, kept: &TrailRecord) -> Result<Meaning, AllocError>
+    ensures { IfOk result (λ it. it ≡ meaning (accepted_of (trail_of kept.now))) }
 {
     let mut meaning = Meaning::new(alloc);
-    take_lines(
-        alloc,
-        &mut meaning,
-        record.accepted,
-        record.lines.as_slice(),
-    )?;
+    take_lines(alloc, &mut meaning, kept.accepted, kept.lines.as_slice())?;
     Ok(meaning)
 }
 

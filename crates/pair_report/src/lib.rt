@@ -3,8 +3,8 @@
 #![tactic(auto)]
 
 mod flows;
-mod got;
 mod heard;
+mod hex_lines;
 mod laws;
 mod lines;
 mod long;
@@ -14,9 +14,9 @@ mod mirrors;
 mod options;
 mod passing;
 mod pipes;
-mod report;
+mod reporting;
 mod sums;
 
 pub use laws::{accepted_is_told, files_and_pipes_are_meant};
 pub use options::{Got, ReportOptions};
-pub use report::report;
+pub use reporting::report;

@@ -1,7 +1,6 @@
 //! The single lines of a report.
 
 ghost use Rattle.std.specs.Prelude.{◌≡◌, ◌++◌, string_bytes, IfOk, OnOk};
-ghost use Rattle.half_model.specs.Meaning.{Flow};
 ghost use Rattle.pair_report.specs.Lines.{counts_lines, side_word, side_line, direction_word};
 ghost use Rattle.pair_report.specs.Lines.{lane_line, mirror_line, state_word, pipe_line, got_prefix};
 ghost use Rattle.pair_report.specs.Lines.{hex_line};
@@ -118,8 +117,8 @@ pub(crate) fn pipe_line(
     bytes: &[u8],
     has_ended: bool,
 ) -> Result<String, AllocError>
-    ensures { IfOk result (λ text. (flow : Flow) → flow.bytes ≡ bytes.now → flow.ended ≡ has_ended
-        → string_bytes text ≡ pipe_line rid is_shut flow) }
+    ensures { IfOk result (λ text. string_bytes text
+        ≡ pipe_line rid is_shut bytes.now has_ended) }
 {
     let count = bytes.len();
     let sum = sum_of(bytes);

@@ -27,16 +27,16 @@ pub(crate) fn put_side(
     alloc: Global,
     out: &mut Text,
     side: Side,
-    record: &TrailRecord,
+    kept: &TrailRecord,
 ) -> Result<(), AllocError>
-    ensures { OnOk result (out.new ≡ out.old ++ side_of side (trail_of record.now)) }
+    ensures { OnOk result (out.new ≡ out.old ++ side_of side (trail_of kept.now)) }
 {
     let line = side_line(
         alloc,
         side,
-        record.made.len(),
-        record.acknowledged,
-        record.accepted,
+        kept.made.len(),
+        kept.acknowledged,
+        kept.accepted,
     )?;
     out.append(line.as_bytes())
 }
@@ -137,7 +137,8 @@ pub(crate) fn put_mirrors_down(
 ) -> Result<(), AllocError>
     ensures { OnOk result (out.new ≡ out.old ++ mirror_lines (reverse mirrors.now.entries)) }
 {
-    for (rid, mirror) in mirrors.iter().rev() {
+    let mut left = mirrors.iter();
+    while let Some((rid, mirror)) = left.next_back() {
         put_mirror(alloc, out, *rid, mirror)?;
     }
     Ok(())
@@ -179,7 +180,8 @@ pub(crate) fn put_pipes_down(
     ensures { OnOk result (out.new ≡ out.old
         ++ flat_map (owner_line shut.now.keys peer.now) (reverse flows.now.entries)) }
 {
-    for (rid, flow) in flows.iter().rev() {
+    let mut left = flows.iter();
+    while let Some((rid, flow)) = left.next_back() {
         put_pipe(alloc, out, shut, peer, *rid, flow)?;
     }
     Ok(())

@@ -54,19 +54,19 @@ impl MirrorMap {
     pub(crate) fn extend(&mut self, rid: i32, size: u32) -> Result<(), AllocError>
         ensures { OnOk result (self.new ≡ with_grown rid size self.old) }
     {
-        match self.mirrors.get_mut(&rid) {
-            Some(mirror) => mirror.grow(size),
-            None => Ok(()),
+        if let Some(mirror) = self.mirrors.get_mut(&rid) {
+            return mirror.grow(size);
         }
+        Ok(())
     }
 
     /// A file has new bytes.
     pub(crate) fn fill(&mut self, rid: i32, start: u32, piece: &[u8]) -> Result<(), AllocError>
         ensures { OnOk result (self.new ≡ with_filled rid start piece.now self.old) }
     {
-        match self.mirrors.get_mut(&rid) {
-            Some(mirror) => mirror.fill(start, piece),
-            None => Ok(()),
+        if let Some(mirror) = self.mirrors.get_mut(&rid) {
+            return mirror.fill(start, piece);
         }
+        Ok(())
     }
 }

@@ -43,8 +43,14 @@ pub(crate) fn put_text_lines(
         if is_own_way(side, *way) {
             taken_left = track_first(&mut objects, *way, taken_left)?;
         } else {
-            let (behind, rids_behind) =
-                put_first(out, side, *way, &mut objects, received_left, rids_left)?;
+            let (behind, rids_behind) = put_first(
+                out,
+                side,
+                *way,
+                &mut objects,
+                received_left,
+                rids_left,
+            )?;
             received_left = behind;
             rids_left = rids_behind;
         }

@@ -1,11 +1,7 @@
 //! The lines of pipes.
 
-ghost use Rattle.std.specs.Prelude.{◌≡◌, ◌++◌, OnOk};
-ghost use Rattle.std.specs.List.{flat_map};
-ghost use Rattle.half_model.specs.Meaning.{Flow};
-ghost use Rattle.half_model.specs.PeerState.{flow_at};
-ghost use Rattle.pipe_relay.specs.Pipes.{has_rid};
-ghost use Rattle.pair_report.specs.Meant.{shut_from, Flows};
+ghost use Rattle.std.specs.Prelude.{◌≡◌, ◌++◌, [], IfOk, OnOk};
+ghost use Rattle.pair_report.specs.Meant.{with_shut, shut_from};
 ghost use Rattle.pair_report.specs.Report.{owner_line, begun};
 
 use crate::flows::{FlowMap, PipeGiven};

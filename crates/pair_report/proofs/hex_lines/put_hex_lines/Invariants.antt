@@ -1,7 +1,7 @@
 use Rattle.std.proofs.Common.{◌≡◌, ◌++◌, drop}
 use Rattle.std.specs.List.{flat_map}
 use Rattle.pair_report.specs.Lines.{hex_line}
-use Rattle.pair_report.proofs.got.put_hex_lines.Given as goal
+use Rattle.pair_report.proofs.hex_lines.put_hex_lines.Given as goal
 
 -- the lines of the messages that are left complete the text
 abbrev pub invariant-loop-message : goal.invariant-loop-message

@@ -3,10 +3,10 @@
 ghost use Rattle.std.specs.Prelude.{◌≡◌, ◌++◌, IfOk, OnOk, length};
 ghost use Rattle.pair_report.specs.Lines.{counts_lines};
 ghost use Rattle.pair_report.specs.Report.{report_of, told_of, seen_at, sides_of, links_of};
-ghost use Rattle.pair_report.specs.Report.{mirrors_of, pipes_of, long_of, got_of};
+ghost use Rattle.pair_report.specs.Report.{pipes_of, long_of, long_if, got_of};
 
-use crate::got::put_hex_lines;
 use crate::heard::meaning_of;
+use crate::hex_lines::put_hex_lines;
 use crate::lines::counts_lines;
 use crate::long::{
     put_links, put_mirrors_down, put_mirrors_up, put_pipes_down, put_pipes_up, put_side,
@@ -29,21 +29,12 @@ use wp_outside::Side;
 ///
 /// # Errors
 /// Only where memory runs out.
-pub fn report(
-    alloc: Global,
-    options: ReportOptions,
-    pair: &PairRecord,
-) -> Result<Text, AllocError>
+pub fn report(alloc: Global, options: ReportOptions, pair: &PairRecord) -> Result<Text, AllocError>
     ensures { IfOk result (λ text. text ≡ report_of options (told_of pair.now)) }
 {
     let seen = seen_by(alloc, pair)?;
     let mut out = Text::new(alloc);
-    put_counts(alloc, &mut out, pair, seen.near.messages.len(), seen.far.messages.len())?;
-    if options.long {
-        put_long(alloc, &mut out, pair, &seen)?;
-    }
-    put_got(alloc, &mut out, options.got, Side::Far, &pair.far, &seen.far)?;
-    put_got(alloc, &mut out, options.got, Side::Near, &pair.near, &seen.near)?;
+    put_report(alloc, &mut out, options, pair, &seen)?;
     Ok(out)
 }
 
@@ -65,6 +56,45 @@ fn seen_by(alloc: Global, pair: &PairRecord) -> Result<Seen, AllocError>
     begin_all(&mut near.flows, &far.opened)?;
     begin_all(&mut far.flows, &near.opened)?;
     Ok(Seen { near, far })
+}
+
+// Adds the report.
+fn put_report(
+    alloc: Global,
+    out: &mut Text,
+    options: ReportOptions,
+    pair: &PairRecord,
+    seen: &Seen,
+) -> Result<(), AllocError>
+    requires near { seen.now.near ≡ seen_at (told_of pair.now).near (told_of pair.now).far }
+    requires far { seen.now.far ≡ seen_at (told_of pair.now).far (told_of pair.now).near }
+    ensures { OnOk result (out.new ≡ out.old ++ report_of options (told_of pair.now)) }
+{
+    let down_received = seen.near.messages.len();
+    let up_received = seen.far.messages.len();
+    put_counts(alloc, out, pair, down_received, up_received)?;
+    put_long_if(alloc, out, options.long, pair, seen)?;
+    put_got(alloc, out, options.got, Side::Far, &pair.far, &seen.far)?;
+    put_got(alloc, out, options.got, Side::Near, &pair.near, &seen.near)
+}
+
+// Adds what a long report has, if it is long.
+fn put_long_if(
+    alloc: Global,
+    out: &mut Text,
+    long: bool,
+    pair: &PairRecord,
+    seen: &Seen,
+) -> Result<(), AllocError>
+    requires near { seen.now.near ≡ seen_at (told_of pair.now).near (told_of pair.now).far }
+    requires far { seen.now.far ≡ seen_at (told_of pair.now).far (told_of pair.now).near }
+    ensures { OnOk result (out.new ≡ out.old ++ long_if long (told_of pair.now)) }
+{
+    if long {
+        put_long(alloc, out, pair, seen)
+    } else {
+        Ok(())
+    }
 }
 
 // Adds the counts of messages.
@@ -91,12 +121,7 @@ fn put_counts(
 }
 
 // Adds what a long report has.
-fn put_long(
-    alloc: Global,
-    out: &mut Text,
-    pair: &PairRecord,
-    seen: &Seen,
-) -> Result<(), AllocError>
+fn put_long(alloc: Global, out: &mut Text, pair: &PairRecord, seen: &Seen) -> Result<(), AllocError>
     requires near { seen.now.near ≡ seen_at (told_of pair.now).near (told_of pair.now).far }
     requires far { seen.now.far ≡ seen_at (told_of pair.now).far (told_of pair.now).near }
     ensures { OnOk result (out.new ≡ out.old ++ long_of (told_of pair.now)) }
@@ -124,7 +149,13 @@ fn put_all_links(alloc: Global, out: &mut Text, pair: &PairRecord) -> Result<(),
     pair.far.stands();
     let near = &pair.near.record().lines;
     let far = &pair.far.record().lines;
-    put_links(alloc, out, pair.connections, near.as_slice(), far.as_slice())
+    put_links(
+        alloc,
+        out,
+        pair.connections,
+        near.as_slice(),
+        far.as_slice(),
+    )
 }
 
 // Adds the pipes.
@@ -139,7 +170,13 @@ fn put_pipes(
     ensures { OnOk result (out.new ≡ out.old ++ pipes_of (told_of pair.now)) }
 {
     let shut = shut_in(alloc, pair.near.record().made.as_slice())?;
-    put_pipes_up(alloc, out, &shut, &pair.application, seen.near.flows.as_map())?;
+    put_pipes_up(
+        alloc,
+        out,
+        &shut,
+        &pair.application,
+        seen.near.flows.as_map(),
+    )?;
     let shut = shut_in(alloc, pair.far.record().made.as_slice())?;
     put_pipes_down(alloc, out, &shut, &pair.compositor, seen.far.flows.as_map())
 }
