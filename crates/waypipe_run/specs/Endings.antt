@@ -1,6 +1,6 @@
 -- How a replay of a pair of proxies ends: its status and the last line of its report. This project's
 -- own.
-use Rattle.std.specs.Prelude.{◌≡◌, List, [], ◌++◌, ℕ}
+use Rattle.std.specs.Prelude.{◌≡◌, ◌≢◌, List, [], ◌++◌, ℕ}
 use Rattle.proxy_trail.specs.declared.pair.PairEnd.{PairEnd}
 use Rattle.proxy_trail.specs.declared.pair.PairEnd.TheVariants as ends
 use Rattle.side_model.specs.declared.fault.ProxyFault.{ProxyFault}
@@ -48,12 +48,14 @@ last_line ends.Closed = closed_text
 last_line ends.LinkFault = link_failed_text
 last_line (ends.Fault side fault) = line_by side fault
 
--- a status, and a report with its last line
+-- a status, and a report with its last line; there is none where a side had no memory
 pub record EndsByFault (side : Side) (fault : ProxyFault) (answer : Status) (report text : List ℕ)
     : Type 0 where
   pub answered : answer ≡ status_by side fault
+  pub had_memory : answer ≢ status.Memory
   pub printed : text ≡ report ++ line_by side fault
 
 pub record EndsReport (end : PairEnd) (answer : Status) (report text : List ℕ) : Type 0 where
   pub answered : answer ≡ status_of end
+  pub had_memory : answer ≢ status.Memory
   pub printed : text ≡ report ++ last_line end

@@ -1,6 +1,7 @@
 pub mod Built
 pub mod Codes
 pub mod Endings
+pub mod Headline
 pub mod Moving
 pub mod Names
 pub mod Parts

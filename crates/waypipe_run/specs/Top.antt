@@ -23,7 +23,7 @@ use Rattle.wp_outside.specs.Counts.{Rose}
 use Rattle.wp_outside.specs.Lines.{Line, Same}
 use Rattle.wp_outside.specs.Pieces.{IfTold, held_with}
 use Rattle.waypipe_run.specs.Built.{first_unbuilt}
-use Rattle.waypipe_run.specs.Endings.{status_of, last_line}
+use Rattle.waypipe_run.specs.Endings.{EndsReport}
 use Rattle.waypipe_run.specs.Moving.{Took, MOST_INPUT, TookNoMore, WroteFront}
 use Rattle.waypipe_run.specs.Reports.{options_of, trial_options}
 use Rattle.waypipe_run.specs.Texts.{usage_text, read_failed_text, script_text, limit_text}
@@ -60,8 +60,7 @@ pub record Reported
     (text : List ℕ) : Type 0 where
   pub pair : PairRecord
   pub replays : Replays steps line pair
-  pub answered : answer ≡ status_of pair.end
-  pub printed : text ≡ report_of options (told_of pair) ++ last_line pair.end
+  pub ends : EndsReport pair.end answer (report_of options (told_of pair)) text
 
 -- the lines of a text are this script, and all of them are run
 pub record IsScript (bytes : List ℕ) (steps : List Step) : Type 0 where

@@ -22,11 +22,17 @@ IsReplay true true words =
     AreWords (codes "replay" ∷ codes "--text" ∷ codes "--long" ∷ []) words
     ⊎ AreWords (codes "replay" ∷ codes "--long" ∷ codes "--text" ∷ []) words
 
--- the word `trial` and a count of rounds from 1 to 500, in decimal without leading zeros
-pub record IsTrial (rounds : ℕ) (words : List (String Global)) : Type 0 where
-  pub words_are : AreWords (codes "trial" ∷ decimal rounds ∷ []) words
+-- a word is a count of rounds from 1 to 500, in decimal without leading zeros
+pub record IsCount (rounds : ℕ) (word : List ℕ) : Type 0 where
   pub some : 1 ≤ rounds
   pub few : rounds ≤ 500
+  pub is : word ≡ decimal rounds
+
+-- the word `trial`, and such a count
+abbrev pub IsTrial : ℕ → List (String Global) → Type 0
+IsTrial rounds (name ∷ count ∷ []) =
+    (string_bytes name ≡ codes "trial") × IsCount rounds (string_bytes count)
+IsTrial rounds words = ⊥
 
 -- the one word `frames`
 abbrev pub IsFrames : List (String Global) → Type 0

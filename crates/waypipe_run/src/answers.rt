@@ -105,10 +105,6 @@ fn answer_bytes<L: LinkStore>(
 fn options_of(texts: bool, long: bool) -> ReportOptions
     ensures { result ≡ options_of texts long }
 {
-    let got = if texts {
-        Got::Text
-    } else {
-        Got::Hexadecimal
-    };
+    let got = if texts { Got::Text } else { Got::Hexadecimal };
     ReportOptions { long, got }
 }

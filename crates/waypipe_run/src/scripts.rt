@@ -6,7 +6,9 @@ ghost use Rattle.script_lang.specs.declared.steps.Step.{Step};
 ghost use Rattle.script_replay.specs.Outcome.{Replays};
 ghost use Rattle.script_replay.specs.Standing.{NothingOpened};
 ghost use Rattle.wp_outside.specs.Lines.{Line, Same};
+ghost use Rattle.pair_report.specs.Report.{report_of, told_of};
 ghost use Rattle.waypipe_run.specs.Built.{first_unbuilt};
+ghost use Rattle.waypipe_run.specs.Endings.{EndsReport};
 ghost use Rattle.waypipe_run.specs.Parts.{RepliesToScript};
 ghost use Rattle.waypipe_run.specs.Texts.{script_text};
 ghost use Rattle.waypipe_run.specs.Top.{IsScript, RepliesToText, Reported, TrialReported};
@@ -64,8 +66,7 @@ pub fn answer_trial<L: LinkStore>(
         got: Got::LeftOut,
     };
     let script = trial_script(alloc, rounds)?;
-    let pair = replay_of(alloc, script, line)?;
-    answer_replayed(alloc, options, pair)
+    answer_played(alloc, options, script, line)
 }
 
 /// Reads a script, and drops its text.
@@ -100,10 +101,7 @@ fn answer_script<L: LinkStore>(
 {
     match first_unbuilt(script.steps.as_slice()) {
         Some(line) => refused(alloc, line, ScriptCause::NotBuilt),
-        None => {
-            let pair = replay_of(alloc, script, line)?;
-            answer_replayed(alloc, options, pair)
-        }
+        None => answer_played(alloc, options, script, line),
     }
 }
 
@@ -119,15 +117,32 @@ fn replay_of<L: LinkStore>(
     replay(alloc, &script, line)
 }
 
+/// Replays a script, all of whose lines are run, and reports what came of it.
+fn answer_played<L: LinkStore>(
+    alloc: Global,
+    options: ReportOptions,
+    script: Script,
+    line: &mut L,
+) -> Result<Reply, AllocError>
+    requires { NothingOpened (L.line line.old) }
+    ensures { IfOk result (λ reply. Reported options script.steps reply.status
+        (L.line line.new) reply.text) }
+{
+    match replay_of(alloc, script, line) {
+        Ok(pair) => answer_replayed(alloc, options, &pair),
+        Err(error) => Err(error),
+    }
+}
+
 /// The report of a replay, and its last line.
 fn answer_replayed(
     alloc: Global,
     options: ReportOptions,
-    pair: PairRecord,
+    pair: &PairRecord,
 ) -> Result<Reply, AllocError>
-    ensures { (steps : List Step) (line : ℕ → Line) → Replays steps line pair
-        → IfOk result (λ reply. Reported options steps reply.status line reply.text) }
+    ensures { IfOk result (λ reply. EndsReport pair.now.end reply.status
+        (report_of options (told_of pair.now)) reply.text) }
 {
-    let text = report(alloc, options, &pair)?;
+    let text = report(alloc, options, pair)?;
     end_report(alloc, text, pair.end)
 }

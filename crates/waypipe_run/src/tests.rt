@@ -41,11 +41,7 @@ fn words_of(alloc: Global, line: &str) -> Result<Vec<String>, AllocError> {
 }
 
 /// What a command answers and writes with ample places, where no call fails.
-fn answered(
-    alloc: Global,
-    command: &str,
-    input: &[u8],
-) -> Result<(Status, Vec<u8>), AllocError> {
+fn answered(alloc: Global, command: &str, input: &[u8]) -> Result<(Status, Vec<u8>), AllocError> {
     let words = words_of(alloc, command)?;
     run(
         alloc,

@@ -1,6 +1,8 @@
 //! The words of the command line.
-ghost use Rattle.std.specs.Prelude.{◌≡◌, ◌↔◌, ◌×◌, ◌≤◌, ◌∷◌, [], MatchOption, IsTrue, decimal};
-ghost use Rattle.waypipe_run.specs.Words.{Asks, AreWords, AreOptions, IsCommand, IsRounds};
+ghost use Rattle.std.specs.Prelude.{◌≡◌, ◌↔◌, ◌∷◌, [], ℕ, true, MatchOption, IsTrue, decimal};
+ghost use Rattle.waypipe_run.specs.Words.{Asks, AreWords, IsReplay, IsTrial, IsCount, IsCommand};
+ghost use Rattle.waypipe_run.specs.declared.words.Command.TheVariants.{Input};
+ghost use Rattle.waypipe_run.specs.declared.words.Task.TheVariants.{Replay};
 
 use itoa::Buffer;
 
@@ -30,70 +32,102 @@ const MOST_ROUNDS: u32 = 500;
 pub fn command_of(words: &[String]) -> Option<Command>
     ensures { MatchOption result (IsCommand words.now → ⊥) (λ command. Asks command words.now) }
 {
-    match words {
-        [] => None,
-        [name, others @ ..] => match name.as_str() {
-            "replay" => replay_with(others),
-            "trial" => trial_of(others),
-            "frames" => frames_of(others),
-            _ => None,
-        },
-    }
-}
-
-/// A replay with these options, if each stands there once at most.
-fn replay_with(options: &[String]) -> Option<Command>
-{
-    match options {
-        [] => Some(replay(false, false)),
-        [one] => match one.as_str() {
-            "--text" => Some(replay(true, false)),
-            "--long" => Some(replay(false, true)),
-            _ => None,
-        },
-        [one, other] if is_both(one.as_str(), other.as_str()) => Some(replay(true, true)),
-        _ => None,
-    }
-}
-
-/// Whether these are both options, in any order.
-fn is_both(one: &str, other: &str) -> bool {
-    match one {
-        "--text" => other == "--long",
-        "--long" => other == "--text",
-        _ => false,
+    if is_one(words, "replay") {
+        Some(replay(false, false))
+    } else if is_two(words, "replay", "--text") {
+        Some(replay(true, false))
+    } else if is_two(words, "replay", "--long") {
+        Some(replay(false, true))
+    } else if has_both_options(words) {
+        Some(replay(true, true))
+    } else if is_one(words, "frames") {
+        Some(Command::Input(Task::Frames))
+    } else {
+        trial_of(words)
     }
 }
 
 /// The command to replay the input.
-fn replay(texts: bool, long: bool) -> Command {
+fn replay(texts: bool, long: bool) -> Command
+    ensures { result ≡ Input (Replay texts long) }
+{
     Command::Input(Task::Replay { texts, long })
 }
 
-/// A trial of as many rounds as the one word says.
-fn trial_of(words: &[String]) -> Option<Command> {
+/// Whether the words ask for a replay with both options, in any order.
+fn has_both_options(words: &[String]) -> bool
+    ensures { IsTrue result ↔ IsReplay true true words.now }
+{
+    is_three(words, "replay", "--text", "--long") || is_three(words, "replay", "--long", "--text")
+}
+
+/// A trial of as many rounds as the words say, if they ask for one.
+fn trial_of(words: &[String]) -> Option<Command>
+    ensures { MatchOption result ((rounds : ℕ) → IsTrial rounds words.now → ⊥)
+        (λ command. Asks command words.now) }
+{
     match words {
-        [word] => rounds_of(word.as_str()).map(|rounds| Command::Trial { rounds }),
+        [name, count] if name.as_str() == "trial" => match rounds_of(count.as_str()) {
+            Some(rounds) => Some(Command::Trial { rounds }),
+            None => None,
+        },
         _ => None,
     }
 }
 
 /// How many rounds a word says: 1 to 500, in decimal without leading zeros.
-fn rounds_of(word: &str) -> Option<u32> {
-    let rounds = word.parse::<u32>().ok()?;
-    let mut buffer = Buffer::new();
-    let is_plain = buffer.format(rounds) == word;
-    if is_plain && 1 <= rounds && rounds <= MOST_ROUNDS {
-        Some(rounds)
-    } else {
-        None
+fn rounds_of(word: &str) -> Option<u32>
+    ensures { MatchOption result ((rounds : ℕ) → IsCount rounds word.now → ⊥)
+        (λ rounds. IsCount rounds word.now) }
+{
+    match word.parse::<u32>() {
+        Ok(rounds) => {
+            if 1 <= rounds && rounds <= MOST_ROUNDS && is_decimal(word, rounds) {
+                Some(rounds)
+            } else {
+                None
+            }
+        }
+        Err(_) => None,
     }
 }
 
-/// The list of frames, where no other word stands there.
-fn frames_of(others: &[String]) -> Option<Command> {
-    match others {
-        [] => Some(Command::Input(Task::Frames)),
-        _ => None,
+/// Whether a word is this number in decimal.
+fn is_decimal(word: &str, number: u32) -> bool
+    ensures { IsTrue result ↔ (word.now ≡ decimal number) }
+{
+    let mut buffer = Buffer::new();
+    buffer.format(number) == word
+}
+
+/// Whether the words are just this one.
+fn is_one(words: &[String], text: &str) -> bool
+    ensures { IsTrue result ↔ AreWords (text.now ∷ []) words.now }
+{
+    match words {
+        [word] => word.as_str() == text,
+        _ => false,
+    }
+}
+
+/// Whether the words are just these two.
+fn is_two(words: &[String], first: &str, second: &str) -> bool
+    ensures { IsTrue result ↔ AreWords (first.now ∷ second.now ∷ []) words.now }
+{
+    match words {
+        [word, other] => word.as_str() == first && other.as_str() == second,
+        _ => false,
+    }
+}
+
+/// Whether the words are just these three.
+fn is_three(words: &[String], first: &str, second: &str, third: &str) -> bool
+    ensures { IsTrue result ↔ AreWords (first.now ∷ second.now ∷ third.now ∷ []) words.now }
+{
+    match words {
+        [word, other, last] => {
+            word.as_str() == first && other.as_str() == second && last.as_str() == third
+        }
+        _ => false,
     }
 }
