@@ -4,31 +4,26 @@
 -- seen there. Where reading did not stop they are just these; where it stopped, further ones may stand
 -- behind them, and on no later connection anything was read. So the counted frames of all
 -- connections begin with those accepted, and the count of the record takes just these.
-use Rattle.std.proofs.Common.{◌≡◌, ◌≢◌, ℕ, zero, suc, ◌+◌, ◌<◌, ◌≤◌, ◌==◌, cond, Bool, true, false, List, [], ◌∷◌, ◌++◌, length, take, drop, Option, Some, None, Ok, refl, sym, ap, ◌∙◌, subst, arith, append_assoc, inl, inr}
+use Rattle.std.proofs.Common.{◌≡◌, ◌≢◌, ℕ, zero, suc, ◌+◌, ◌<◌, ◌≤◌, cond, Bool, List, [], ◌∷◌, ◌++◌, length, take, drop, Option, Some, None, refl, sym, ap, ◌∙◌, subst, arith, append_assoc, inl, inr}
 use Rattle.std.specs.Prelude.{◌⊎◌}
 use Rattle.std.proofs.lemmas.Bool.{cases_order, ne_eqb, eq-eqb}
 use Rattle.std.proofs.lemmas.List.{append-nil, take_at, drop_at}
 use Rattle.std.proofs.lemmas.List.Elements.{filter-append}
 use Rattle.std.specs.List.{AllByRecursion}
-use Rattle.wp_outside.specs.declared.kinds.Side.{Side}
 use Rattle.transfer_frames.specs.declared.frame.Frame.{Frame}
-use Rattle.transfer_frames.specs.Front.{front}
 use Rattle.transfer_frames.specs.Grammar.{IsFrame, role, spelling}
 use Rattle.transfer_frames.proofs.FrontLaws.{front-spelled, front-short}
 use Rattle.pair_model.specs.Lines.{Line, SideRecord, Stop, Rising, read_on}
 use Rattle.pair_model.specs.Rows.{counted, is_counted, spellings, Reads}
-use Rattle.pair_model.specs.Wire.{accepted_below, stop_on, Waits, Ends, Sees}
+use Rattle.pair_model.specs.Wire.{accepted_below, stop_on, Waits, Ends}
 use Rattle.pair_model.proofs.Came.{no_read}
 use Rattle.pair_model.proofs.Seen.{accepted_past}
 use Rattle.half_model.specs.Story.{accepted_in}
-use Rattle.side_model.specs.declared.fault.ProxyFault.{ProxyFault}
-use Rattle.side_model.specs.Books.{Book}
 use Rattle.side_model.specs.Judging.{AcceptsInTurn}
 use Rattle.side_model.specs.Places.{places_in, side_of}
-use Rattle.side_model.specs.Records.{Law}
 use Rattle.side_model.proofs.Judgings.{accepts_just_those}
 use Rattle.pair_audit.proofs.WalkLemmas.{none_below}
-use Rattle.pair_report.specs.Heard.{frames_in, counted_on, accepted_of}
+use Rattle.pair_report.specs.Heard.{frames_in, counted_on}
 use Rattle.pair_report.specs.Laws.{AcceptedIsTold}
 use Rattle.pair_report.proofs.FrameRows.{frames_first, frames_none}
 

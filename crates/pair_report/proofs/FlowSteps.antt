@@ -1,5 +1,5 @@
 -- What came of pipes, once more comes of one of them.
-use Rattle.std.proofs.Common.{◌≡◌, ℤ, List, Option, Some, None, sym, ◌∙◌, ap, int_cmp}
+use Rattle.std.proofs.Common.{◌≡◌, ℤ, Option, Some, sym, ◌∙◌, ap, int_cmp}
 use Rattle.std.specs.BTreeMap.{insert_entry, is_at}
 use Rattle.std.specs.List.Sorted.{IsStrictlySortedBy}
 use Rattle.std.specs.Map.{keys_of, lookup, set_value}

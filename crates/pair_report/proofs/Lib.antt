@@ -3,7 +3,6 @@ pub mod Takings
 pub mod FlowSteps
 pub mod MirrorSteps
 pub mod Printable
-pub mod Ordered
 pub mod LinkWalk
 pub mod Accepted
 pub mod MeantLaws

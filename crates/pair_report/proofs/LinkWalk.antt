@@ -1,6 +1,6 @@
 -- A walk along the lines of a side, one connection after another: what is left of them has all bytes
 -- of the connections that come.
-use Rattle.std.proofs.Common.{◌≡◌, ℕ, suc, ◌+◌, ◌<◌, ◌≤◌, List, ◌++◌, length, refl, sym, ap, ◌∙◌, subst, arith, add-one}
+use Rattle.std.proofs.Common.{◌≡◌, ℕ, ◌+◌, ◌<◌, List, ◌++◌, refl, sym, ap, ◌∙◌, subst, arith, add-one}
 use Rattle.pair_model.specs.Lines.{Line, Rising, written_on, read_on}
 use Rattle.pair_audit.specs.Walking.{rows_behind}
 use Rattle.pair_audit.proofs.WalkLemmas.{rises_behind, same_behind}

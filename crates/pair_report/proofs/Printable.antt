@@ -1,6 +1,6 @@
 -- A message that passes can be printed: it is one of the table's, its arguments are good, and it
 -- carries one handle at most.
-use Rattle.std.proofs.Common.{◌≡◌, ℕ, zero, suc, ◌≤◌, ℤ, List, [], ◌∷◌, length, filter_map, nat_le, drop, Bool, true, false, Option, Some, None, Result, Ok, Err, option_map, option_and_then, refl, sym, ap, ◌∙◌, subst, arith}
+use Rattle.std.proofs.Common.{◌≡◌, ℕ, zero, suc, ◌≤◌, ℤ, List, [], ◌∷◌, length, filter_map, nat_le, drop, Bool, true, Option, Some, None, Result, Ok, Err, option_map, option_and_then, refl, sym, ap, ◌∙◌, subst, arith}
 use Rattle.std.proofs.lemmas.Bool.{and_parts, leb-true}
 use Rattle.wl_text.proofs.FrontLaws.{some_same}
 use Rattle.std.specs.List.{slice_get, list_all}
@@ -24,7 +24,7 @@ use Rattle.wl_objects.specs.ObjectLaws.{IsByTheTable}
 use Rattle.wl_objects.specs.Tracking.{Admission, step}
 use Rattle.wl_objects.proofs.Rows.{passed_by_the_table}
 use Rattle.wl_text.specs.Text.{CanPrint}
-use Rattle.pair_report.specs.Passing.{first_rid, handles_in, interface_told}
+use Rattle.pair_report.specs.Passing.{handles_in, interface_told}
 
 -- ---- the table
 

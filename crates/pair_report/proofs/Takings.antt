@@ -5,8 +5,6 @@ use Rattle.std.proofs.lemmas.List.Elements.{filter-append}
 use Rattle.wl_wire.specs.Wire.{cut}
 use Rattle.transfer_frames.specs.declared.frame.Frame.{Frame}
 use Rattle.transfer_frames.specs.declared.frame.Frame.TheVariants as frames
-use Rattle.transfer_frames.specs.declared.frame.FrameRole.{FrameRole}
-use Rattle.transfer_frames.specs.declared.frame.FrameRole.TheVariants.{Counted, Tells, Greets}
 use Rattle.transfer_frames.specs.Front.{front, Takes}
 use Rattle.transfer_frames.specs.Grammar.{role}
 use Rattle.pair_model.specs.Rows.{counted, is_counted}

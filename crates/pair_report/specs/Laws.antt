@@ -1,7 +1,7 @@
--- Laws of what a report is told by: of lawful records the frames are those that their story accepts,
--- and what is reported of mirrors and pipes is what these frames mean, said for one rid alone. This
--- project's own.
-use Rattle.std.specs.Prelude.{◌≡◌, ℕ, ℤ, List, Option, length}
+-- Laws of what a report is told by: of lawful records the frames are those that their story
+-- accepts, and what is reported of mirrors and pipes is what these frames mean, said for one rid
+-- alone. This project's own.
+use Rattle.std.specs.Prelude.{◌≡◌, ℕ, ℤ, List, Option}
 use Rattle.wp_outside.specs.declared.kinds.Side.{Side}
 use Rattle.transfer_frames.specs.declared.frame.Frame.{Frame}
 use Rattle.mirror_pools.specs.Meaning.{mirror}

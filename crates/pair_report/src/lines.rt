@@ -2,7 +2,8 @@
 
 ghost use Rattle.std.specs.Prelude.{◌≡◌, ◌++◌, string_bytes, IfOk, OnOk};
 ghost use Rattle.pair_report.specs.Lines.{counts_lines, side_word, side_line, direction_word};
-ghost use Rattle.pair_report.specs.Lines.{lane_line, mirror_line, state_word, pipe_line, got_prefix};
+ghost use Rattle.pair_report.specs.Lines.{lane_line, mirror_line, state_word, pipe_line};
+ghost use Rattle.pair_report.specs.Lines.{got_prefix};
 ghost use Rattle.pair_report.specs.Lines.{hex_line};
 
 use crate::mirror::Mirror;

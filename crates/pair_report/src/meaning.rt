@@ -92,7 +92,8 @@ impl Meaning {
 
     // A pipe is opened.
     fn take_pipe(&mut self, rid: i32) -> Result<(), AllocError>
-        ensures { OnOk result (self.new ≡ record self.old { opened = with_rid rid self.old.opened }) }
+        ensures { OnOk result (self.new
+            ≡ record self.old { opened = with_rid rid self.old.opened }) }
     {
         self.opened.insert(rid)?;
         Ok(())

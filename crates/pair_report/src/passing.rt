@@ -18,8 +18,8 @@ use wl_text::append_message;
 use wl_wire::{Message, Text};
 use wp_outside::{HandleKind, Side};
 
-/// Adds a line for each message that was received, as its text. Those that the side took from its own
-/// peer are tracked between them.
+/// Adds a line for each message that was received, as its text. Those that the side took from its
+/// own peer are tracked between them.
 ///
 /// # Errors
 /// Only where memory runs out.
@@ -89,7 +89,8 @@ fn track_first<'a>(
     }
 }
 
-// Adds the line of the first message, if there is one, and answers the messages and the rids behind.
+// Adds the line of the first message, if there is one, and answers the messages and the rids behind
+// it.
 fn put_first<'a>(
     out: &mut Text,
     side: Side,

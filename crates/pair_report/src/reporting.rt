@@ -20,12 +20,12 @@ use std::alloc::{AllocError, Global};
 use wl_wire::Text;
 use wp_outside::Side;
 
-/// The report of a pair, without its last line: how many connections there were and how many messages
-/// both peers sent and received; if it is long, what the proxies and their link did; and the messages
-/// that were received.
+/// The report of a pair, without its last line: how many connections there were and how many
+/// messages both peers sent and received; if it is long, what the proxies and their link did; and
+/// the messages that were received.
 ///
-/// What was received, the mirrors and the pipes are what the frames mean that a side accepted, which
-/// may be more than its peer was given where the side has failed.
+/// What was received, the mirrors and the pipes are what the frames mean that a side accepted,
+/// which may be more than its peer was given where the side has failed.
 ///
 /// # Errors
 /// Only where memory runs out.

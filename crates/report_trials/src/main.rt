@@ -1,6 +1,6 @@
-//! Drives a pair of proxies with their records and their peers, and prints its reports. The input is
-//! rows of lines, with an empty line behind each row; each row begins with a new pair. It is no part
-//! of the program.
+//! Drives a pair of proxies with their records and their peers, and prints its reports. The input
+//! is rows of lines, with an empty line behind each row; each row begins with a new pair. It is no
+//! part of the program.
 #![tactic(auto)]
 
 mod calls;

@@ -10,12 +10,14 @@ const TOKEN: [u8; 16] = *b"of this session.";
 
 /// A pair of proxies to which nothing has happened.
 pub fn new_pair(alloc: Global) -> Result<PairRecord, AllocError> {
-    match (
-        Trail::new(alloc, Side::Near, TOKEN),
-        Trail::new(alloc, Side::Far, TOKEN),
-    ) {
-        (Ok(near), Ok(far)) => Ok(pair_of(alloc, near, far)),
-        _ => Err(AllocError),
+    let near = Trail::new(alloc, Side::Near, TOKEN)?;
+    pair_with(alloc, near)
+}
+
+fn pair_with(alloc: Global, near: Trail) -> Result<PairRecord, AllocError> {
+    match Trail::new(alloc, Side::Far, TOKEN) {
+        Ok(far) => Ok(pair_of(alloc, near, far)),
+        Err(error) => Err(error),
     }
 }
 

@@ -41,24 +41,39 @@ impl<'a> Step<'a> {
     pub fn read(line: &'a str) -> Option<Step<'a>> {
         let (name, rest) = first_word(line);
         match name {
-            "near" => Act::read(rest).map(|act| Step::Of(Side::Near, act)),
-            "far" => Act::read(rest).map(|act| Step::Of(Side::Far, act)),
+            "near" => step_of(Side::Near, Act::read(rest)),
+            "far" => step_of(Side::Far, Act::read(rest)),
             "connect" => Some(Step::Connect),
             "break" => Some(Step::Break),
             "settle" => Some(Step::Settle),
             "give" => Some(Step::Give),
-            "report" => options(rest).map(Step::Report),
+            "report" => report_of(options(rest)),
             _ => None,
         }
     }
 }
 
+fn step_of(side: Side, act: Option<Act<'_>>) -> Option<Step<'_>> {
+    match act {
+        Some(act) => Some(Step::Of(side, act)),
+        None => None,
+    }
+}
+
+fn report_of<'a>(options: Option<ReportOptions>) -> Option<Step<'a>> {
+    match options {
+        Some(options) => Some(Step::Report(options)),
+        None => None,
+    }
+}
+
 fn options(rest: &str) -> Option<ReportOptions> {
     let (name, behind) = first_word(rest);
-    if name == "long" {
-        return got(behind).map(|got| ReportOptions { long: true, got });
+    let long = name == "long";
+    match got(if long { behind } else { name }) {
+        Some(got) => Some(ReportOptions { long, got }),
+        None => None,
     }
-    got(name).map(|got| ReportOptions { long: false, got })
 }
 
 fn got(name: &str) -> Option<Got> {
@@ -79,7 +94,10 @@ impl<'a> Act<'a> {
             "lose" => Some(Act::Lose),
             _ => {
                 let (word, behind) = first_word(rest);
-                number(word).and_then(|number| act_with_number(name, number, behind))
+                match number(word) {
+                    Some(number) => act_with_number(name, number, behind),
+                    None => None,
+                }
             }
         }
     }

@@ -1,7 +1,7 @@
 use Rattle.std.proofs.Common.{◌∙◌, ap, List, take}
 use Rattle.pair_model.specs.Lines.{Line}
 use Rattle.pair_report.specs.Heard.{accepted_of, counted_on}
-use Rattle.pair_report.specs.Meant.{Meant, no_meaning, with_frames}
+use Rattle.pair_report.specs.Meant.{with_frames}
 use Rattle.trail_records.specs.Noting.{trail_of}
 use Rattle.pair_report.proofs.Takings.{meaning_is}
 use Rattle.pair_report.proofs.heard.meaning_of.Goals as goal

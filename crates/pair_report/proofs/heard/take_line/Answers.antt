@@ -1,8 +1,7 @@
-use Rattle.std.proofs.Common.{◌≡◌, ℕ, ◌-◌, Option, Some, None, Ok, Err, arith, length, drop, take, sym, ap, ◌∙◌, subst}
+use Rattle.std.proofs.Common.{◌≡◌, ℕ, ◌-◌, Option, Some, None, Ok, Err, arith, length, take, sym, ap, ◌∙◌, subst}
 use Rattle.std.specs.Prelude.{IfSome}
-use Rattle.transfer_frames.specs.declared.cause.DecodeFault.{DecodeFault}
 use Rattle.transfer_frames.specs.declared.frame.Frame.{Frame}
-use Rattle.transfer_frames.specs.Front.{front, Answers, Takes}
+use Rattle.transfer_frames.specs.Front.{front, Takes}
 use Rattle.pair_model.specs.Rows.{counted}
 use Rattle.pair_report.specs.Heard.{frames_in}
 use Rattle.pair_report.specs.Meant.{with_frames}

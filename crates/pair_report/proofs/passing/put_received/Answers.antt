@@ -1,7 +1,6 @@
-use Rattle.std.proofs.Common.{ℕ, ℤ, w32, to_z, of_z, Bool, List, [], ◌∷◌, Option, Some, sym, ◌∙◌, ap, subst}
+use Rattle.std.proofs.Common.{ℤ, w32, to_z, of_z, Bool, [], ◌∷◌, Option, sym, ◌∙◌, ap, subst}
 use Rattle.wp_outside.specs.declared.kinds.HandleKind.{HandleKind}
 use Rattle.wl_tables.specs.Messages.{handle_kind}
-use Rattle.wl_wire.specs.Wire.{opcode_of}
 use Rattle.wl_text.specs.Text.{CanPrint}
 use Rattle.pair_report.specs.Passing.{handles_in}
 use Rattle.pair_report.proofs.Printable.{can_print}
