@@ -33,7 +33,7 @@ use Rattle.script_sides.proofs.Words.{JobHas, follow_have, left_in, left_sum, so
 use Rattle.side_model.specs.declared.fault.ProxyFault.{ProxyFault}
 use Rattle.side_model.specs.Books.{Book, marked_trail, grown, grow_all, closed}
 use Rattle.side_model.specs.Calls.{Part}
-use Rattle.side_model.specs.Due.{hear, group, group_found, work, next}
+use Rattle.side_model.specs.Due.{hear, group, group_found, treat, end, choose, work, next}
 use Rattle.side_model.specs.Events.{Event, Handed, Grouped, Next, Do, Rest, or_next}
 use Rattle.side_model.specs.Follows.{JobsFollow}
 use Rattle.side_model.specs.Marks.{mark_grouped}
@@ -85,7 +85,7 @@ out_awaits half job t h e =
     not_none words_in h.one.before (sent_out job) h.one.after (ap (map words_in) (sym (is_awaited job t.now h ∙ h.one.row)) ∙ e)
 
 -- those of the copy that is out, and those of the others
-pub others_left : (half : ℕ) {job : Job} {jobs : List Job} → OneOut job jobs → ℕ
+abbrev pub others_left : (half : ℕ) {job : Job} {jobs : List Job} → OneOut job jobs → ℕ
 others_left half one = sum_by (left_in half) one.before + sum_by (left_in half) one.after
 
 pub half_words : (half : ℕ) (job : Job) (t : TrailState) (h : CopiesAre (Some job) t.now) → half ≤ job.part.count → words_left (side_seen half t) ≡ others_left half h.one + (job.part.count - half)
@@ -130,25 +130,25 @@ no_others half job t h e =
 
 copies_count : (jobs : List Job) → all_back jobs ≡ true → length (copies_of jobs) ≡ length jobs
 copies_count [] e = refl
-copies_count (job ∷ jobs) e = by_state job.state e
+copies_count (job ∷ jobs) e = by_state (λ k. copies_count jobs k) job.state e
   where
-    by_state : (state : JobState) → (is_back state && all_back jobs) ≡ true → length (cons_option (copied job.part job.low state) (copies_of jobs)) ≡ suc (length jobs)
-    by_state (Waits eye) k = absurd cc
-    by_state IsOut k = absurd cc
-    by_state (IsBack words receipt) k = ap (λ (n : ℕ). suc n) (copies_count jobs k)
+    by_state : (all_back jobs ≡ true → length (copies_of jobs) ≡ length jobs) → (state : JobState) → (is_back state && all_back jobs) ≡ true → length (cons_option (copied job.part job.low state) (copies_of jobs)) ≡ suc (length jobs)
+    by_state rest (Waits eye) k = absurd cc
+    by_state rest IsOut k = absurd cc
+    by_state rest (IsBack words receipt) k = ap (λ (n : ℕ). suc n) (rest k)
 
 handed_count : (done : Done) (jobs : List Job) → length (handed done jobs) ≡ length jobs
 handed_count done [] = refl
-handed_count done (job ∷ jobs) = by_done (is_done done job)
+handed_count done (job ∷ jobs) = by_done (handed_count done jobs) (is_done done job)
   where
-    by_done : (b : Bool) → length (cond b (record job { state = IsBack done.words done.receipt } ∷ jobs) (job ∷ handed done jobs)) ≡ suc (length jobs)
-    by_done true = refl
-    by_done false = ap (λ (n : ℕ). suc n) (handed_count done jobs)
+    by_done : length (handed done jobs) ≡ length jobs → (b : Bool) → length (cond b (record job { state = IsBack done.words done.receipt } ∷ jobs) (job ∷ handed done jobs)) ≡ suc (length jobs)
+    by_done rest true = refl
+    by_done rest false = ap (λ (n : ℕ). suc n) rest
 
 -- the group of the last message is due
 group_next : (s : Now) (made : MadeGroup) → hear s ≡ Rest → group_due s.live.sending.owes s.kept.jobs ≡ Some made → next s ≡ Do Grouped
 unfolding next work group
-group_next s made quiet due = ap (λ (it : Next). or_next it (work s)) quiet ∙ ap (λ (found : Option MadeGroup). or_next (group_found found) _) due
+group_next s made quiet due = ap (λ (it : Next). or_next it (work s)) quiet ∙ ap (λ (found : Option MadeGroup). or_next (group_found found) (or_next (treat s) (or_next (end s) (choose s)))) due
 
 grown_group : (s : Now) (book : Book) (made : MadeGroup) → group_due s.live.sending.owes s.kept.jobs ≡ Some made → (grown Grouped s book).trail.copies ≡ book.trail.copies ++ made.copies
 grown_group s book made due = ap (λ (found : Option MadeGroup). (marked_trail (mark_grouped found) book.trail).copies) due

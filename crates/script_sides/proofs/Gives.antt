@@ -24,6 +24,7 @@ use Rattle.script_sides.specs.Giving.{less, given, GivesNext, to_give, Gives}
 use Rattle.script_sides.specs.Ready.{OwnOf, HalfFits, IsSound, IsReady}
 use Rattle.script_sides.specs.Sided.{SideRun, state_of, half_loaded, is_up}
 use Rattle.script_sides.proofs.Kins.{Kin, gave_kin}
+use Rattle.script_sides.proofs.Links.{running}
 use Rattle.script_sides.proofs.Sounds.{half_stays, CallsOn, sound_call, sound_more, wire_more}
 use Rattle.side_model.specs.Events.{Gave}
 use Rattle.side_model.specs.Follows.{is_message, IsReceiptOf, AreReceipts}
@@ -189,3 +190,31 @@ fewer (first ∷ items) receipts item live e d found = omega (arith, ap length d
 pub given_fewer : (item : PeerOut) (it : SideRun) → next_item it.trail.now.live ≡ Some item → to_give (given item it) < to_give it
 unfolding step
 given_fewer item it found = fewer it.trail.now.live.items it.trail.now.live.receipts item it.trail.now.live refl refl found
+
+-- ---- the code's steps
+
+pub sound_given : (item : PeerOut) (it : SideRun) (trail : TrailState) (peer : ScriptedPeer) → IsSound it → MatchOption it.trail.fault (trail ≡ trail_step Gave it.trail) (λ _. trail ≡ it.trail) → Keeps trail → peer ≡ gave item it.peer
+    → IsSound (record it { trail = trail; peer = peer })
+sound_given item it trail peer s h k d =
+    let e : trail ≡ trail_step Gave it.trail = running it.trail.fault (trail ≡ trail_step Gave it.trail) (λ _. trail ≡ it.trail) s.runs.goes_on h in
+    subst (λ (t : TrailState). IsSound (record it { trail = t; peer = peer })) (sym e)
+    (subst (λ (p : ScriptedPeer). IsSound (record it { trail = trail_step Gave it.trail; peer = p })) (sym d) (given_sound item it s (subst (λ (t : TrailState). Keeps t) e k)))
+
+pub sound_less : (it : SideRun) (trail : TrailState) → IsSound it → MatchOption it.trail.fault (trail ≡ trail_step Gave it.trail) (λ _. trail ≡ it.trail) → Keeps trail → IsSound (record it { trail = trail })
+sound_less it trail s h k =
+    let e : trail ≡ trail_step Gave it.trail = running it.trail.fault (trail ≡ trail_step Gave it.trail) (λ _. trail ≡ it.trail) s.runs.goes_on h in
+    subst (λ (t : TrailState). IsSound (record it { trail = t })) (sym e) (less_sound it s (subst (λ (t : TrailState). Keeps t) e k))
+
+pub next_gives : (old new : SideRun) → IsSound old → IsSound new → GivesNext true old new → Gives old new
+next_gives old new s t h =
+    subst (λ (x : SideRun). Gives old x) (sym h.2) (given_gives h.0 old s (subst (λ (x : SideRun). Keeps x.trail) h.2 t.runs.keeps))
+
+pub last_gives : (old new : SideRun) → IsSound old → IsSound new → GivesNext false old new → Gives old new
+last_gives old new s t h =
+    subst (λ (x : SideRun). Gives old x) (sym h.1) (less_gives old s (subst (λ (x : SideRun). Keeps x.trail) h.1 t.runs.keeps))
+
+pub last_ready : (old new : SideRun) → IsSound new → GivesNext false old new → IsReady new
+last_ready old new t h = subst (λ (x : SideRun). IsReady x) (sym h.1) (less_ready old (subst (λ (x : SideRun). IsSound x) h.1 t) h.0)
+
+pub next_fewer : (old new : SideRun) → GivesNext true old new → to_give new < to_give old
+next_fewer old new h = subst (λ (x : SideRun). to_give x < to_give old) (sym h.2) (given_fewer h.0 old h.1)

@@ -5,3 +5,6 @@ pub mod Wires
 pub mod Words
 pub mod Loadings
 pub mod Backs
+pub mod Links
+pub mod Acting
+pub mod Calls

@@ -27,13 +27,13 @@ last_further words count a c over few left (inl h) = absurd (no_words a count le
 last_further words count a c over few left (inr h) =
     inr (
       omega (arith, h.0, few, left),
-      h.1.0 ∙ ap (λ (n : ℕ). record a { loaded = n }) (omega (arith, few)),
-      h.1.1,
+      h.1 ∙ ap (λ (n : ℕ). record a { loaded = n }) (omega (arith, few)),
+      h.2,
     )
 
 row_further : (n words count : ℕ) (a c : SideState) (over : ℕ) (stop : Option ProxyFault) → 0 < count → count ≤ words → count < words_left a → LoadsIn n (words - count) (further count a) c over stop → LoadsIn n words a c over stop
 row_further zero words count a c over stop some few left h = (h.0, last_further words count a c over few left h.1)
-row_further (suc n) words count a c over stop some few left h = (omega (arith, some, few), h.1.0, by_case h.1.1)
+row_further (suc n) words count a c over stop some few left h = (omega (arith, some, few), h.1, by_case h.2)
   where
     by_case : LoadFails (further count a) c stop ⊎ ((words_left (further count a) ≤ words - count) × LoadGoes (further count a) (λ mid. LoadsIn n ((words - count) - words_left (further count a)) mid c over stop))
         → LoadFails a c stop ⊎ ((words_left a ≤ words) × LoadGoes a (λ mid. LoadsIn n (words - words_left a) mid c over stop))
@@ -78,7 +78,7 @@ none_asked a (inl none) = record { count = 0; row = (refl, inl (none, refl, refl
 none_asked a (inr some) = record { count = 0; row = (refl, inr (some, ap (λ (n : ℕ). record a { loaded = n }) (omega arith), refl)) }
 
 -- what is loaded from here on is loaded from there on
-pub Onward : ℕ → SideState → ℕ → SideState → Type 0
+abbrev pub Onward : ℕ → SideState → ℕ → SideState → Type 0
 Onward words a left b = (c : SideState) (over : ℕ) (stop : Option ProxyFault) → Loads left b c over stop → Loads words a c over stop
 
 -- ---- the copies of one message
@@ -134,11 +134,11 @@ all_stops a b fault h = record { count = 1; row = (h.awaits, inl (record { fault
 pub all_nothing : (a b : SideState) → LoadsNothing a b → LoadsAll a b None
 all_nothing a b h = record { count = 0; row = (h.awaits, h.same, refl) }
 
-pub AllOnward : SideState → SideState → Type 0
+abbrev pub AllOnward : SideState → SideState → Type 0
 AllOnward a b = (c : SideState) (stop : Option ProxyFault) → LoadsAll b c stop → LoadsAll a c stop
 
 -- a message that is taken is longer than its copies count
-pub to_load : SideState → ℕ
+abbrev pub to_load : SideState → ℕ
 to_load it = length it.inside.bytes + copies_left it.copies
 
 some_left : (copies : List ℕ) → copies ≢ [] → copies_left copies ≡ 1

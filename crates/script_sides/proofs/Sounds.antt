@@ -58,13 +58,13 @@ pub goes_on : (event : Event) (old new : TrailState) → RunsOn old → Keeps ne
 goes_on event old new r k calls = record { goes_on = (ok_done event old new r.goes_on calls).goes_on; keeps = k }
 
 -- what is left as it is by a call
-pub record CallsOn (it : SideRun) (new : TrailState) (half : Option HalfState) (asked : Bool) : Type 0 where
+pub record CallsOn (it : SideRun) (new : TrailState) (out : Option HalfState) (said : Bool) : Type 0 where
   pub kin : Kin it.trail.now new.now
   pub runs : RunsOn new
   pub rows : last_number new.book.trail.lines.rows ≡ last_number it.trail.book.trail.lines.rows
   pub own : AllOwn (OwnOf it.peer) new.now
-  pub half : HalfFits it.peer new.now half
-  pub asked : asked ≡ (side_seen 0 new).inside.asked
+  pub half : HalfFits it.peer new.now out
+  pub asked : said ≡ (side_seen 0 new).inside.asked
 
 pub sound_call : (it : SideRun) (new : TrailState) (half : Option HalfState) (asked : Bool) → IsSound it → CallsOn it new half asked → IsSound (called new half asked it)
 sound_call it new half asked s c = record {

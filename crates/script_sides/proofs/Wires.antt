@@ -16,7 +16,7 @@ use Rattle.script_peers.specs.declared.item_queue.WireItem.{WireItem}
 use Rattle.script_sides.specs.Takings.{TakesOne, TakesNothing, TakesNext}
 use Rattle.side_model.specs.declared.fault.ProxyFault.{ProxyFault}
 use Rattle.side_model.specs.declared.fault.ProxyFault.TheVariants.{Memory}
-use Rattle.side_model.specs.Sound.{MOST_PIECE} 
+use Rattle.side_model.specs.Sound.{MOST_PIECE}
 use Rattle.side_model.specs.Sound as sound
 
 -- ---- one item
@@ -26,10 +26,10 @@ behind_is [] rest = refl
 behind_is (byte ∷ bytes) rest = refl
 
 -- what leaves is what is cut off
-pub record IsCut (most : ℕ) (item : PeerIn) (rest : List PeerIn) : Type 0 where
-  pub item : (leaving (min most LARGEST_PIECE) item rest).item ≡ (cut_item most item rest).item
-  pub rest : (leaving (min most LARGEST_PIECE) item rest).rest ≡ (cut_item most item rest).rest
-  pub cost : cost_of (cut_item most item rest).item ≡ (cut_item most item rest).cost
+pub record IsCut (most : ℕ) (whole : PeerIn) (wire : List PeerIn) : Type 0 where
+  pub item : (leaving (min most LARGEST_PIECE) whole wire).item ≡ (cut_item most whole wire).item
+  pub rest : (leaving (min most LARGEST_PIECE) whole wire).rest ≡ (cut_item most whole wire).rest
+  pub cost : cost_of (cut_item most whole wire).item ≡ (cut_item most whole wire).cost
 
 size_is : (most : ℕ) (bytes : List ℕ) → piece_size most bytes ≡ min (min most LARGEST_PIECE) (length bytes)
 size_is most bytes = omega arith
@@ -131,7 +131,7 @@ cut_left most (items.Pipe item) wire l = omega (arith, sum_by-cons item_left (it
 -- ---- one after another
 
 -- what is taken from here on is taken from there on
-pub Onward : ℕ → Taker → ℕ → Taker → Type 0
+abbrev pub Onward : ℕ → Taker → ℕ → Taker → Type 0
 Onward most a left b = (c : Taker) (stop : Option ProxyFault) → TakesAll left b c stop → TakesAll most a c stop
 
 pub one_more : (most : ℕ) (a b c : Taker) (stop : Option ProxyFault) (cost : ℕ) → TakesOne most a b (λ it. (cost ≡ it.cost) × Works false (fed it.item a.side) b.side) → TakesAll (most - cost) b c stop → TakesAll most a c stop

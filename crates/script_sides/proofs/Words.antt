@@ -42,7 +42,7 @@ parts_have file segments (piece ∷ pieces) =
     all_append HasWords (parts_of_piece file segments piece) (parts_of file segments pieces) (from_have file 0 segments (8 * piece.first) (8 * piece.end)) (parts_have file segments pieces)
 
 -- and so has each job
-pub JobHas : Job → Type 0
+abbrev pub JobHas : Job → Type 0
 JobHas job = 0 < job.part.count
 
 jobs_have : (jobs : List Job) → AllByRecursion HasWords (map (λ job. job.part) jobs) → AllByRecursion JobHas jobs
@@ -54,28 +54,30 @@ follow_have owed jobs h = jobs_have jobs (subst (λ (parts : List Part). AllByRe
 
 -- ---- the words that are left of a job
 
-pub left_in : ℕ → Job → ℕ
+abbrev pub left_in : ℕ → Job → ℕ
 left_in half job = job.part.count - loaded_in half job
 
 -- no more are loaded of a job than it has
-pub Fair : ℕ → Job → Type 0
+abbrev pub Fair : ℕ → Job → Type 0
 Fair half job = loaded_in half job ≤ words_in job
 
 -- one that is not back has some left
-pub Lacks : ℕ → Job → Type 0
+abbrev pub Lacks : ℕ → Job → Type 0
 Lacks half job = is_back job.state ≡ false → 0 < left_in half job
 
 pub left_sum : (half : ℕ) (jobs : List Job) → AllByRecursion (Fair half) jobs → sum (map words_in jobs) ≡ sum_by (loaded_in half) jobs + sum_by (left_in half) jobs
 left_sum half [] h = refl
-left_sum half (job ∷ jobs) h = omega (arith, sum_by-cons (loaded_in half) job jobs, sum_by-cons (left_in half) job jobs, h.0, left_sum half jobs h.1)
+left_sum half (job ∷ jobs) h =
+    let more : sum (words_in job ∷ map words_in jobs) ≡ words_in job + sum (map words_in jobs) = sum_by-cons (λ x. x) (words_in job) (map words_in jobs) in
+    omega (arith, more, sum_by-cons (loaded_in half) job jobs, sum_by-cons (left_in half) job jobs, h.0, left_sum half jobs h.1)
 
 pub some_left : (half : ℕ) (jobs : List Job) → AllByRecursion (Lacks half) jobs → all_back jobs ≡ false → 0 < sum_by (left_in half) jobs
 some_left half [] h e = absurd cc
-some_left half (job ∷ jobs) h e = by_back (is_back job.state) refl e
+some_left half (job ∷ jobs) h e = by_back (λ k. some_left half jobs h.1 k) (is_back job.state) refl e
   where
-    by_back : (b : Bool) → is_back job.state ≡ b → (b && all_back jobs) ≡ false → 0 < sum_by (left_in half) (job ∷ jobs)
-    by_back true d k = omega (arith, sum_by-cons (left_in half) job jobs, some_left half jobs h.1 k)
-    by_back false d k = omega (arith, sum_by-cons (left_in half) job jobs, h.0 d)
+    by_back : (all_back jobs ≡ false → 0 < sum_by (left_in half) jobs) → (b : Bool) → is_back job.state ≡ b → (b && all_back jobs) ≡ false → 0 < sum_by (left_in half) (job ∷ jobs)
+    by_back rest true d k = omega (arith, sum_by-cons (left_in half) job jobs, rest k)
+    by_back rest false d k = omega (arith, sum_by-cons (left_in half) job jobs, h.0 d)
 
 back_left : (half count : ℕ) (state : JobState) → is_back state ≡ true → count - loaded_by half count state ≡ 0
 back_left half count (Waits eye) e = absurd cc
@@ -84,11 +86,11 @@ back_left half count (IsBack words receipt) e = omega arith
 
 pub none_left : (half : ℕ) (jobs : List Job) → all_back jobs ≡ true → sum_by (left_in half) jobs ≡ 0
 none_left half [] e = refl
-none_left half (job ∷ jobs) e = by_back (is_back job.state) refl e
+none_left half (job ∷ jobs) e = by_back (λ k. none_left half jobs k) (is_back job.state) refl e
   where
-    by_back : (b : Bool) → is_back job.state ≡ b → (b && all_back jobs) ≡ true → sum_by (left_in half) (job ∷ jobs) ≡ 0
-    by_back true d k = omega (arith, sum_by-cons (left_in half) job jobs, back_left half job.part.count job.state d, none_left half jobs k)
-    by_back false d k = absurd cc
+    by_back : (all_back jobs ≡ true → sum_by (left_in half) jobs ≡ 0) → (b : Bool) → is_back job.state ≡ b → (b && all_back jobs) ≡ true → sum_by (left_in half) (job ∷ jobs) ≡ 0
+    by_back rest true d k = omega (arith, sum_by-cons (left_in half) job jobs, back_left half job.part.count job.state d, rest k)
+    by_back rest false d k = absurd cc
 
 -- ---- jobs that are not out
 

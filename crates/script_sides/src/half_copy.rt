@@ -19,6 +19,7 @@ pub(crate) struct HalfCopy {
 }
 
 impl Model for HalfCopy {
+    ghost use Rattle.std.specs.Prelude.{length};
     ghost use Rattle.script_sides.specs.Halves.{HalfState, unused, IsBegun};
 
     ghost Value = { HalfState };

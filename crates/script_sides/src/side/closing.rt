@@ -28,7 +28,9 @@ impl ScriptSide {
             return Ok(());
         }
         self.asked = true;
-        self.trail.close(REASON)?;
+        let answer = self.trail.close(REASON);
+        self.trail.stands();
+        answer?;
         match self.give() {
             Ok(()) => Ok(()),
             Err(_) => Err(ProxyFault::Memory),

@@ -26,7 +26,9 @@ impl ScriptSide {
         ensures leaves { LeavesUp result self.old self.new }
         ensures wire { self.new.peer.wire ≡ self.old.peer.wire }
     {
-        self.trail.link_up(connection)
+        let answer = self.trail.link_up(connection);
+        self.trail.stands();
+        answer
     }
 
     /// The connection goes down, if one is up. Takes no memory.
@@ -38,6 +40,7 @@ impl ScriptSide {
         ensures down { is_up self.new ≡ false }
     {
         self.trail.link_down();
+        self.trail.stands();
     }
 
     /// Makes room in the records for the bytes that are to be written next.
@@ -47,13 +50,15 @@ impl ScriptSide {
     pub fn make_room(&mut self) -> Result<(), ProxyFault>
         requires { IsReady self.old }
         ensures same { state_of self.new ≡ state_of self.old }
-        ensures lent { lent_of self.new ≡ lent_of self.old }
+        ensures lent { OnOk result (lent_of self.new ≡ lent_of self.old) }
         ensures room { OnOk result (room_of self.new ≡ length (lent_of self.new)) }
         ensures refuses { IfErr result RefusesPiece }
         ensures leaves { Leaves result self.old self.new }
         ensures peer { self.new.peer ≡ self.old.peer }
     {
-        self.trail.make_room()
+        let answer = self.trail.make_room();
+        self.trail.stands();
+        answer
     }
 
     /// The bytes that are to be written next. None are, where a connection is up, exactly where there
@@ -77,6 +82,7 @@ impl ScriptSide {
         ensures peer { self.new.peer ≡ self.old.peer }
     {
         self.trail.link_sent(count);
+        self.trail.stands();
     }
 
     /// Takes a piece, of any length, of what comes on the connection.
@@ -90,7 +96,9 @@ impl ScriptSide {
         ensures leaves { Leaves result self.old self.new }
         ensures wire { self.new.peer.wire ≡ self.old.peer.wire }
     {
-        self.trail.feed_link(piece)?;
+        let answer = self.trail.feed_link(piece);
+        self.trail.stands();
+        answer?;
         match self.give() {
             Ok(()) => Ok(()),
             Err(_) => Err(ProxyFault::Memory),

@@ -1,10 +1,9 @@
 //! How the words of copies are loaded.
 
-ghost use Rattle.std.specs.Prelude.{◌≡◌, ◌<◌, false, Ok};
+ghost use Rattle.std.specs.Prelude.{◌≡◌, ◌<◌, false, None, Ok};
 ghost use Rattle.pair_runs.specs.Loading.{LoadsAll};
 ghost use Rattle.script_sides.specs.Answering.{Answers, Leaves};
-ghost use Rattle.script_sides.specs.Progressing.{LoadsBy, LoadsMessage, LoadedBy, Begins};
-ghost use Rattle.script_sides.specs.Progressing.{IsLent, HandsBack};
+ghost use Rattle.script_sides.specs.Progressing.{LoadsBy, LoadsMessage, LoadedBy, Begins, IsLast, before};
 ghost use Rattle.script_sides.specs.Ready.{IsReady};
 ghost use Rattle.script_sides.specs.Sided.{state_of};
 
@@ -100,22 +99,41 @@ impl ScriptSide {
     {
         match self.half.take() {
             Some(half) => Some(half),
-            None => match self.trail.next_copy() {
-                Some(copy) => Some(HalfCopy::new(copy)),
-                None => None,
-            },
+            None => self.lend(),
+        }
+    }
+
+    /// Lends the next copy.
+    fn lend(&mut self) -> Option<HalfCopy>
+        requires ready { IsReady self.old }
+        requires none { self.old.half ≡ None }
+        ensures { Begins result self.old self.new }
+    {
+        let copy = self.trail.next_copy();
+        self.trail.stands();
+        match copy {
+            Some(copy) => Some(HalfCopy::new(copy)),
+            None => None,
         }
     }
 
     /// Hands back a copy that is loaded whole, of which so many words were loaded just now.
-    fn hand_back(&mut self, half: HalfCopy, count: usize) -> Result<Progress, ProxyFault> {
-        let before = self.trail.record().copies.len();
-        self.trail.copy_done(half.finish())?;
+    fn hand_back(&mut self, half: HalfCopy, count: usize) -> Result<Progress, ProxyFault>
+        requires { IsLast count half self.old }
+        ensures loads { LoadedBy count (state_of (before count half self.old)) (state_of self.new)
+            result }
+        ensures leaves { Leaves result self.old self.new }
+        ensures wire { self.new.peer.wire ≡ self.old.peer.wire }
+    {
+        let made = self.trail.record().copies.len();
+        let answer = self.trail.copy_done(half.finish());
+        self.trail.stands();
+        answer?;
         match self.give() {
             Ok(()) => {}
             Err(_) => return Err(ProxyFault::Memory),
         }
-        if self.trail.record().copies.len() == before {
+        if self.trail.record().copies.len() == made {
             Ok(Progress::Part(count))
         } else {
             Ok(Progress::Whole(count))

@@ -3,7 +3,7 @@
 ghost use Rattle.std.specs.Prelude.{◌≡◌, true, false, Ok};
 ghost use Rattle.pair_runs.specs.Sides.{fed, wants};
 ghost use Rattle.pair_runs.specs.Taking.{TakesAll};
-ghost use Rattle.receipt_laws.specs.Owning.{FedIsOwn};
+ghost use Rattle.receipt_laws.specs.Owning.{PutIsOwn};
 ghost use Rattle.script_sides.specs.Answering.{Answers, Leaves};
 ghost use Rattle.script_sides.specs.Ready.{IsReady, OwnOf};
 ghost use Rattle.script_sides.specs.Sided.{state_of, taker_of};
@@ -65,12 +65,14 @@ impl ScriptSide {
         requires ready { IsReady self.old }
         requires wants { wants (state_of self.old) ≡ true }
         requires item { IsItem item }
-        requires own { FedIsOwn (OwnOf self.old.peer) item }
+        requires own { PutIsOwn (OwnOf self.old.peer) item }
         ensures works { Feeds result (fed item (state_of self.old)) (state_of self.new) }
         ensures leaves { Leaves result self.old self.new }
         ensures wire { self.new.peer.wire ≡ self.old.peer.wire }
     {
-        self.trail.feed_peer(item)?;
+        let answer = self.trail.feed_peer(item);
+        self.trail.stands();
+        answer?;
         match self.give() {
             Ok(()) => Ok(()),
             Err(_) => Err(ProxyFault::Memory),
