@@ -5,3 +5,4 @@ pub mod MovingLemmas
 pub mod OutcomeLemmas
 pub mod StreamLemmas
 pub mod TopLemmas
+pub mod WordLemmas

@@ -82,7 +82,7 @@ fn rounds_of(word: &str) -> Option<u32>
 {
     match word.parse::<u32>() {
         Ok(rounds) => {
-            if 1 <= rounds && rounds <= MOST_ROUNDS && is_decimal(word, rounds) {
+            if is_count(word, rounds) {
                 Some(rounds)
             } else {
                 None
@@ -90,6 +90,13 @@ fn rounds_of(word: &str) -> Option<u32>
         }
         Err(_) => None,
     }
+}
+
+/// Whether a word says this count of rounds.
+fn is_count(word: &str, rounds: u32) -> bool
+    ensures { IsTrue result ↔ IsCount rounds word.now }
+{
+    1 <= rounds && rounds <= MOST_ROUNDS && is_decimal(word, rounds)
 }
 
 /// Whether a word is this number in decimal.
