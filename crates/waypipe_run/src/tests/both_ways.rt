@@ -10,6 +10,7 @@ use wl_wire::{ObjectFault, WireFault};
 use wp_outside::Side;
 
 /// A script, the status that its replay answers, and lines of the report, the last one at its end.
+#[derive(Clone, Copy)]
 struct Row {
     script: &'static str,
     status: Status,

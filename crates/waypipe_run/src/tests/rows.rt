@@ -54,6 +54,7 @@ comp wl_buffer@10.release()
 
 /// One row: its name, the command, the parts of the script, and lines that the text has, in this
 /// order, the last one at its end.
+#[derive(Clone, Copy)]
 struct Row {
     name: &'static str,
     command: &'static str,
