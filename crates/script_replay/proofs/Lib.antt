@@ -1,0 +1,9 @@
+pub mod Keeping
+pub mod Calling
+pub mod Telling
+pub mod Connecting
+pub mod Crossing
+pub mod Leaving
+pub mod Arriving
+pub mod Settling
+pub mod Playing

@@ -1,0 +1,10 @@
+pub mod Kins
+pub mod Sounds
+pub mod Gives
+pub mod Wires
+pub mod Words
+pub mod Loadings
+pub mod Backs
+pub mod Links
+pub mod Acting
+pub mod Calls
