@@ -19,9 +19,12 @@ pub fn tell(rt: HostRuntime, pair: &PairRecord) -> io::Result<()> {
 }
 
 fn tell_counts(rt: HostRuntime, side: &str, record: &TrailRecord) -> io::Result<()> {
-    println!(rt; "{side} sent {} received {}", record.taken.len(), record.given)?;
-    println!(
-        rt;
+    println!(rt;
+        "{side} sent {} received {}",
+        record.taken.len(),
+        record.given
+    )?;
+    println!(rt;
         "{side} made {} acknowledged {} accepted {}",
         record.made.len(),
         record.acknowledged,
@@ -31,8 +34,7 @@ fn tell_counts(rt: HostRuntime, side: &str, record: &TrailRecord) -> io::Result<
 
 fn tell_lines(rt: HostRuntime, side: &str, lines: &[LineRecord]) -> io::Result<()> {
     for line in lines {
-        println!(
-            rt;
+        println!(rt;
             "link {} {side} written {} read {}",
             line.connection,
             line.written.len(),
@@ -53,8 +55,7 @@ fn tell_pipe(rt: HostRuntime, peer: &PeerRecord, rid: i32) -> io::Result<()> {
     match peer.pipe(rid) {
         Some(flow) => {
             let bytes = flow.bytes();
-            println!(
-                rt;
+            println!(rt;
                 "pipe {rid} bytes {} sum {} ended {}",
                 bytes.len(),
                 sum_of(bytes),

@@ -117,8 +117,10 @@ come_more connection count most more dir first old new before middle after so_fa
 pub come_all : (connection count most : ℕ) (dir : Direction) (first now : SideRun) (before after : ℕ → Line) → count ≤ most → (count ≡ most) ⊎ (count ≡ length (waiting_on dir connection before)) → ReadSoFar connection dir first now before after count
     → Came most connection dir first now before after None
 come_all connection count most dir first now before after few end so_far = record {
-  comes = (subst (λ (bytes : List ℕ). Reads bytes (state_of first) (state_of now)) (same end) so_far.reads,
-      subst (λ (n : ℕ). Became before after connection (pulled_from dir n)) (sym (long end)) so_far.change);
+  comes = (
+    subst (λ (bytes : List ℕ). Reads bytes (state_of first) (state_of now)) (same end) so_far.reads,
+    subst (λ (n : ℕ). Became before after connection (pulled_from dir n)) (sym (long end)) so_far.change,
+  );
   stays = so_far.runs;
   peer = so_far.peer;
 }

@@ -71,7 +71,6 @@ pub take_changes : (side : Side) (most : ℕ) (old : Run) (new : SideRun) (stop 
 take_changes Near most old new stop all line = (sided.taker_of new, (stop, all, refl, refl))
 take_changes Far most old new stop all line = (sided.taker_of new, (stop, all, refl, refl))
 
-
 pub load_all_changes : (side : Side) (old : Run) (new : SideRun) (stop : Option ProxyFault) → LoadsAll (sided.state_of (run_at side old)) (sided.state_of new) stop → new.peer.wire ≡ (run_at side old).peer.wire
     → (line : ℕ → outside.Line) → Changes (LoadAll side) (state_of old line) (state_of (with_run side new old) line) (at_side side stop)
 load_all_changes Near old new stop all e line = (sided.state_of new, (stop, all, ap (λ (wire : List PeerIn). record (state_of old line) { near = sided.state_of new; near_wire = wire }) e, refl))

@@ -99,11 +99,12 @@ connect_made law old near far before after down r en ef un uf wn wf most b fresh
     let next : suc (connections s) ≡ old.last + 1 = next_is old before r.aside in
     record {
       did = one_move Connect s t (record {
-        changes = connects true s t None refl (line_down old.up (before old.last) down)
-            (omega (arith, most, connections_are old before r.aside),
-            state_is t (record s { near = with_line (suc (connections s)) s.near; far = with_line (suc (connections s)) s.far; line = Some no_lanes })
-            (en ∙ ap (λ (c : ℕ). with_line c (sided.state_of old.near)) (sym next)) (ef ∙ ap (λ (c : ℕ). with_line c (sided.state_of old.far)) (sym next)) wn wf
-            (ap (λ (it : outside.Line). Some (lanes_of it)) b.here));
+        changes = connects true s t None refl (line_down old.up (before old.last) down) (
+          omega (arith, most, connections_are old before r.aside),
+          state_is t (record s { near = with_line (suc (connections s)) s.near; far = with_line (suc (connections s)) s.far; line = Some no_lanes })
+              (en ∙ ap (λ (c : ℕ). with_line c (sided.state_of old.near)) (sym next)) (ef ∙ ap (λ (c : ℕ). with_line c (sided.state_of old.far)) (sym next)) wn wf
+              (ap (λ (it : outside.Line). Some (lanes_of it)) b.here),
+        );
         kept = kept_aside law (made old near far) after ready.aside;
       });
       stays = ready;
@@ -134,9 +135,10 @@ connect_near law old near line fault down r part above stops wire =
     let t : State = state_of (record old { near = near }) line in
     record {
       did = one_fault Connect s t (record { side = Near; fault = fault }) (record {
-        changes = connects true s t (Some (record { side = Near; fault = fault })) refl (line_down old.up (line old.last) down)
-            (limits old line fault r.aside above,
-            (sided.state_of near, subst (λ (c : ℕ). LineInPart c (sided.state_of old.near) (sided.state_of near)) (sym (next_is old line r.aside)) part, ap (λ (it : List PeerIn). record s { near = sided.state_of near; near_wire = it }) wire));
+        changes = connects true s t (Some (record { side = Near; fault = fault })) refl (line_down old.up (line old.last) down) (
+          limits old line fault r.aside above,
+          (sided.state_of near, subst (λ (c : ℕ). LineInPart c (sided.state_of old.near) (sided.state_of near)) (sym (next_is old line r.aside)) part, ap (λ (it : List PeerIn). record s { near = sided.state_of near; near_wire = it }) wire),
+        );
         kept = (subst (λ (side : Side). HasFailed side (sided.state_of near) fault) r.aside.near.side_is stops.failed, goes_on law Far old.far old.last old.up r.aside.far);
       });
       stays = tells_failed Near fault (connections t) (rows_of t.near) (rows_of t.far) line
@@ -153,10 +155,14 @@ connect_far law old near far line fault down r en un part above stops wn wf =
     let next : suc (connections s) ≡ old.last + 1 = next_is old line r.aside in
     record {
       did = one_fault Connect s t (record { side = Far; fault = fault }) (record {
-        changes = connects true s t (Some (record { side = Far; fault = fault })) refl (line_down old.up (line old.last) down)
-            (limits old line fault r.aside above,
-            (sided.state_of far, subst (λ (c : ℕ). LineInPart c (sided.state_of old.far) (sided.state_of far)) (sym next) part,
-            state_is t (record s { near = with_line (suc (connections s)) s.near; far = sided.state_of far }) (en ∙ ap (λ (c : ℕ). with_line c (sided.state_of old.near)) (sym next)) refl wn wf refl));
+        changes = connects true s t (Some (record { side = Far; fault = fault })) refl (line_down old.up (line old.last) down) (
+          limits old line fault r.aside above,
+          (
+            sided.state_of far,
+            subst (λ (c : ℕ). LineInPart c (sided.state_of old.far) (sided.state_of far)) (sym next) part,
+            state_is t (record s { near = with_line (suc (connections s)) s.near; far = sided.state_of far }) (en ∙ ap (λ (c : ℕ). with_line c (sided.state_of old.near)) (sym next)) refl wn wf refl,
+          ),
+        );
         kept = (goes_on law Near near (old.last + 1) true (up_at Near (old.last + 1) old.last old.up old.near near r.aside.near en un), subst (λ (side : Side). HasFailed side (sided.state_of far) fault) r.aside.far.side_is stops.failed);
       });
       stays = tells_failed Far fault (connections t) (rows_of t.near) (rows_of t.far) line
@@ -316,5 +322,5 @@ not_less a b n = go (nat_lt a b) refl
 
 pub spoil_by : ReadyGoesOn → (dir : Direction) (offset byte : ℕ) (old : Run) (before after : ℕ → outside.Line) → IsReady old before → (b : Bool) → (IsTrue b ↔ (offset < length (lane_of dir (before old.last)).waiting)) → MatchBool b (Became before after old.last (spoiled_at dir offset byte)) (Same before after)
     → Went (MovesAll (Spoil dir offset byte ∷ [])) old old before after None
-spoil_by law dir offset byte old before after r true answer change = spoil_moves law dir offset byte old before after r (answer.0 tt) change
+spoil_by law dir offset byte old before after r true answer change = spoil_moves law dir offset byte old before after r (answer.0 refl) change
 spoil_by law dir offset byte old before after r false answer change = spoil_none law dir offset byte old before after r (λ e. not_less offset (length (lane_of dir (before old.last)).waiting) (λ l. absurd (let never : false ≡ true = answer.1 l in cc))) change

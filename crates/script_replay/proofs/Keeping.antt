@@ -129,8 +129,8 @@ side_moves law side old new move (Some fault) changes leaves e = λ line ready. 
 
 -- ---- why a call stops
 
-pub stopped : {X : Type 0} (side : Side) (fault : ProxyFault) (stop : Stop) (P : Option Fault → Type 0) → stop ≡ stop_by side fault → (fault ≢ faults.Memory → P (Some (record { side = side; fault = fault }))) → IfStops {X = X} (Err stop) P
-stopped {X} side (faults.Frame connection place cause) stop P e h = subst (λ (it : Stop). IfStops {X = X} (Err it) P) (sym e) (h (λ d. cc))
-stopped {X} side (faults.Peer index cause) stop P e h = subst (λ (it : Stop). IfStops {X = X} (Err it) P) (sym e) (h (λ d. cc))
-stopped {X} side (faults.Limit which) stop P e h = subst (λ (it : Stop). IfStops {X = X} (Err it) P) (sym e) (h (λ d. cc))
-stopped {X} side faults.Memory stop P e h = subst (λ (it : Stop). IfStops {X = X} (Err it) P) (sym e) tt
+pub stopped : (X : Type 0) (side : Side) (fault : ProxyFault) (stop : Stop) (P : Option Fault → Type 0) → stop ≡ stop_by side fault → (fault ≢ faults.Memory → P (Some (record { side = side; fault = fault }))) → IfStops {X = X} (Err stop) P
+stopped X side (faults.Frame connection place cause) stop P e h = subst (λ (it : Stop). IfStops {X = X} (Err it) P) (sym e) (h (λ d. cc))
+stopped X side (faults.Peer index cause) stop P e h = subst (λ (it : Stop). IfStops {X = X} (Err it) P) (sym e) (h (λ d. cc))
+stopped X side (faults.Limit which) stop P e h = subst (λ (it : Stop). IfStops {X = X} (Err it) P) (sym e) (h (λ d. cc))
+stopped X side faults.Memory stop P e h = subst (λ (it : Stop). IfStops {X = X} (Err it) P) (sym e) tt

@@ -14,7 +14,7 @@ use Rattle.script_lang.specs.declared.steps.StepKind.{StepKind}
 use Rattle.script_lang.specs.declared.steps.StepKind.TheVariants as line
 use Rattle.script_peers.specs.Laws.{BytesArePut}
 use Rattle.script_peers.specs.Peers.{ScriptedPeer, Acts, acted}
-use Rattle.script_peers.specs.Putting.{is_own, items_by}
+use Rattle.script_peers.specs.Putting.{is_own, items_by, owned_after}
 use Rattle.script_peers.specs.Scripts as peers
 use Rattle.pair_runs.specs.Moves.{Move, Put, MovesAll}
 use Rattle.pair_runs.specs.Runs.{Played, Does, DoesBy, settles, moves_of, AreLines, Plays, PlaysLine, Settles, bytes_of, bytes_in, size_after, MOST, End, Drained, Stopped, Fails, end_by}
@@ -50,7 +50,7 @@ line_settles what s t stop e bytes h = record {
   does = subst (λ (b : Bool). DoesBy b (record { what = what; puts = [] }) s t stop) (sym e) h;
 }
 
-pub goes_line : {X Y : Type 0} (what : StepKind) (moves : List Move) (result : Result X Stop) (old new : Run) (before after : ℕ → outside.Line) → settles what ≡ false → [] ≡ puts.put_by Near what ++ puts.put_by Far what → moves_of what [] ≡ moves
+pub goes_line : {X : Type 0} (what : StepKind) (moves : List Move) (result : Result X Stop) (old new : Run) (before after : ℕ → outside.Line) → settles what ≡ false → [] ≡ puts.put_by Near what ++ puts.put_by Far what → moves_of what [] ≡ moves
     → IfStops result (Goes moves old new before after) → IfStops result (GoesBy (DoesLine what) old new before after)
 goes_line what moves result old new before after e bytes is h =
     stops_same result (Goes moves old new before after) (GoesBy (DoesLine what) old new before after)
@@ -69,9 +69,9 @@ goes_settles what result old new before after e bytes h =
 pub drop_answer : {X : Type 0} (answer : X) (P : Option Fault → Type 0) → IfStops (Ok answer) P → IfStops {X = Unit {0}} (Ok tt) P
 drop_answer answer P h = h
 
-pub other_answer : {X Y : Type 0} (stop : Stop) (P : Option Fault → Type 0) → IfStops {X = X} (Err stop) P → IfStops {X = Y} (Err stop) P
-other_answer (stops.Failed it) P h = h
-other_answer stops.Memory P h = tt
+pub other_answer : (X Y : Type 0) (stop : Stop) (P : Option Fault → Type 0) → IfStops {X = X} (Err stop) P → IfStops {X = Y} (Err stop) P
+other_answer X Y (stops.Failed it) P h = h
+other_answer X Y stops.Memory P h = tt
 
 -- ---- a line of a peer
 
@@ -86,6 +86,6 @@ same_bytes (items.Pipe item ∷ all) = same_bytes all
 acts_wire : (what : StepKind) (old new : ScriptedPeer) → Acts what old new → (new.wire ≡ old.wire ++ peers.put_by old.side old.own what) × (new.side ≡ old.side)
 acts_wire what old new (pool, is) = go (is_own old.side what) is
   where
-    go : (b : Bool) → new ≡ (if b then record old { own = _; wire = old.wire ++ items_by old.own what } else old) → (new.wire ≡ old.wire ++ (if b then items_by old.own what else [])) × (new.side ≡ old.side)
+    go : (b : Bool) → new ≡ (if b then record old { own = owned_after pool what old.own; wire = old.wire ++ items_by old.own what } else old) → (new.wire ≡ old.wire ++ (if b then items_by old.own what else [])) × (new.side ≡ old.side)
     go true e = (ap (λ (it : ScriptedPeer). it.wire) e, ap (λ (it : ScriptedPeer). it.side) e)
     go false e = (ap (λ (it : ScriptedPeer). it.wire) e ∙ sym (append-nil old.wire), ap (λ (it : ScriptedPeer). it.side) e)

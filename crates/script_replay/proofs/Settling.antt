@@ -1,5 +1,5 @@
 -- Rows of moves one behind the other, and what a round changes.
-use Rattle.std.proofs.Common.{◌≡◌, ◌≢◌, ℕ, zero, suc, ◌+◌, ◌<◌, ◌≤◌, Bool, true, false, not, is_none, ◌&&◌, ◌||◌, List, [], ◌∷◌, ◌++◌, length, Option, Some, None, Result, Ok, Err, refl, sym, ap, subst, ◌∙◌, arith, inl, inr}
+use Rattle.std.proofs.Common.{◌≡◌, ◌≢◌, ℕ, zero, suc, ◌+◌, ◌<◌, ◌≤◌, Bool, true, false, not, is_none, ◌&&◌, ◌||◌, List, [], ◌∷◌, ◌++◌, take, drop, length, Option, Some, None, Result, Ok, Err, refl, sym, ap, subst, ◌∙◌, arith, inl, inr}
 use Rattle.std.specs.Prelude.{IsTrue, ◌↔◌}
 use Rattle.std.specs.List.{AllByRecursion}
 use Rattle.wp_outside.specs.declared.kinds.Direction.{Direction}
@@ -15,7 +15,7 @@ use Rattle.pair_runs.specs.Measure.{copies_left, wire_left, left, Falls}
 use Rattle.pair_runs.specs.Moves.{Move, Take, LoadAll, ConnectIfHeld, Push, Pull, Changes, Moves, MovesAll, LoadedAll, at_side, Connected, ConnectedBy, PushedOn, PulledOff, PulledBy, WritesBy, holds}
 use Rattle.pair_runs.specs.Runs.{round, Rounds, Settles}
 use Rattle.pair_runs.specs.Sides.{SideState}
-use Rattle.pair_runs.specs.States.{State, Fault, Lanes, side_at, with_side, on_lane, writer, reader}
+use Rattle.pair_runs.specs.States.{State, Fault, Lanes, side_at, with_side, lane_at, on_lane, writer, reader}
 use Rattle.pair_runs.proofs.Falling.{InRound, Takes, Loads, Connects, Pushes, Pulls, moves_fall, round_falls, falls_left, quiet_first, loaded_none}
 use Rattle.script_replay.specs.Going.{IfStops, Went, GoesBy, Goes, GoesAside}
 use Rattle.script_replay.specs.Settling.{bring, carry, ChangedIf, ChangedAside, Leads}
@@ -57,13 +57,13 @@ aside_then result one other old middle new g h =
     stops_same result (GoesAside other middle new) (GoesAside (one ++ other) old new) (λ stop k line. went_then one other old middle new line line line stop (g line) (k line)) h
 
 -- a call that doesn't come to its end
-pub goes_stop : {X Y : Type 0} (stop : Stop) (one other : List Move) (old new : Run) (before after : ℕ → outside.Line) → IfStops {X = X} (Err stop) (Goes one old new before after) → IfStops {X = Y} (Err stop) (Goes (one ++ other) old new before after)
-goes_stop (stops.Failed it) one other old new before after h = λ ready. let w = h ready in record { did = moves_stop one other (state_of old before) (state_of new after) _ w.did; stays = w.stays }
-goes_stop stops.Memory one other old new before after h = tt
+pub goes_stop : (X Y : Type 0) (stop : Stop) (one other : List Move) (old new : Run) (before after : ℕ → outside.Line) → IfStops {X = X} (Err stop) (Goes one old new before after) → IfStops {X = Y} (Err stop) (Goes (one ++ other) old new before after)
+goes_stop X Y (stops.Failed it) one other old new before after h = λ ready. let w = h ready in record { did = moves_stop one other (state_of old before) (state_of new after) _ w.did; stays = w.stays }
+goes_stop X Y stops.Memory one other old new before after h = tt
 
-pub aside_stop : {X Y : Type 0} (stop : Stop) (one other : List Move) (old new : Run) → IfStops {X = X} (Err stop) (GoesAside one old new) → IfStops {X = Y} (Err stop) (GoesAside (one ++ other) old new)
-aside_stop (stops.Failed it) one other old new h = λ line ready. let w = h line ready in record { did = moves_stop one other (state_of old line) (state_of new line) _ w.did; stays = w.stays }
-aside_stop stops.Memory one other old new h = tt
+pub aside_stop : (X Y : Type 0) (stop : Stop) (one other : List Move) (old new : Run) → IfStops {X = X} (Err stop) (GoesAside one old new) → IfStops {X = Y} (Err stop) (GoesAside (one ++ other) old new)
+aside_stop X Y (stops.Failed it) one other old new h = λ line ready. let w = h line ready in record { did = moves_stop one other (state_of old line) (state_of new line) _ w.did; stays = w.stays }
+aside_stop X Y stops.Memory one other old new h = tt
 
 -- where a move leaves the link alone, it does at this one
 pub line_in : {X : Type 0} (result : Result X Stop) (moves : List Move) (old new : Run) (line : ℕ → outside.Line) → IfStops result (GoesAside moves old new) → IfStops result (Goes moves old new line line)
@@ -134,12 +134,12 @@ pull_wires : (dir : Direction) (most : ℕ) → LeavesWires (Pull dir most)
 pull_wires dir most s t h = go s.line h
   where
     by : (fault : Option ProxyFault) (bytes : List ℕ) → PulledBy fault dir bytes s t → SameWires s t
-    by None bytes (b, reads, is) = lane_wires dir (reader dir) _ b s t is
-    by (Some fault) bytes (b, (pulled, reads, is)) = lane_wires dir (reader dir) _ b s t is
+    by None bytes (b, reads, is) = lane_wires dir (reader dir) (λ lane. drop (length bytes) lane) b s t is
+    by (Some fault) bytes (b, (pulled, reads, is)) = lane_wires dir (reader dir) (λ lane. drop (length pulled) lane) b s t is
 
     go : (line : Option Lanes) → PulledOff line dir most s t None → SameWires s t
     go None d = same_wires s t d.0
-    go (Some lanes) (fault, pulled, stop) = by fault _ pulled
+    go (Some lanes) (fault, pulled, stop) = by fault (take most (lane_at dir lanes)) pulled
 
 moves_wires : (moves : List Move) (s t : State) → AllByRecursion LeavesWires moves → MovesAll moves s t None → SameWires s t
 moves_wires [] s t h m = same_wires s t m.0
@@ -230,7 +230,7 @@ settles_here most s now t leads m e = leads t None (record { count = 0; rounds =
 pub settles_fault : (most : ℕ) (s now t : State) (it : Fault) → Leads most s now → MovesAll (round most) now t (Some it) → Settles most s t (Some it)
 settles_fault most s now t it leads m = leads t (Some it) (record { count = 0; rounds = (m, λ none. absurd (let never : Some it ≡ None = none in cc)) })
 
-pub settle_stops : {X Y : Type 0} (stop : Stop) (most : ℕ) (first now new : Run) (before between after : ℕ → outside.Line) → Leads most (state_of first before) (state_of now between) → IsReady now between → IfStops {X = X} (Err stop) (Goes (round most) now new between after)
+pub settle_stops : (X Y : Type 0) (stop : Stop) (most : ℕ) (first now new : Run) (before between after : ℕ → outside.Line) → Leads most (state_of first before) (state_of now between) → IsReady now between → IfStops {X = X} (Err stop) (Goes (round most) now new between after)
     → IfStops {X = Y} (Err stop) (GoesBy (Settles most) first new before after)
-settle_stops (stops.Failed it) most first now new before between after leads ready h = λ _. let w = h ready in record { did = settles_fault most (state_of first before) (state_of now between) (state_of new after) _ leads w.did; stays = w.stays }
-settle_stops stops.Memory most first now new before between after leads ready h = tt
+settle_stops X Y (stops.Failed it) most first now new before between after leads ready h = λ _. let w = h ready in record { did = settles_fault most (state_of first before) (state_of now between) (state_of new after) _ leads w.did; stays = w.stays }
+settle_stops X Y stops.Memory most first now new before between after leads ready h = tt

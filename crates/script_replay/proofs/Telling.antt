@@ -181,10 +181,11 @@ pulled_up got refused count near far before after c b is h last t = λ n. record
   where
     here : (n : ℕ) → n ≡ c → ((after n).up.pushed ≡ (before n).up.pushed) × ((after n).up.pulled ≡ (before n).up.pulled ++ (got ++ refused)) × (refused_by Far Far (n == c) refused ≡ refused)
     here n e =
-        let at = at_line before after c (pulled_from Up count) n b e in
-        (ap (λ (it : outside.Line). it.up.pushed) at,
-        ap (λ (it : outside.Line). it.up.pulled) at ∙ ap (λ (bytes : List ℕ). (before n).up.pulled ++ bytes) (subst (λ (m : ℕ). take count (before m).up.waiting ≡ got ++ refused) (sym e) is),
-        ap (λ (there : Bool). refused_by Far Far there refused) (eq-eqb n c e))
+        let at = at_line before after c (pulled_from Up count) n b e in (
+          ap (λ (it : outside.Line). it.up.pushed) at,
+          ap (λ (it : outside.Line). it.up.pulled) at ∙ ap (λ (bytes : List ℕ). (before n).up.pulled ++ bytes) (subst (λ (m : ℕ). take count (before m).up.waiting ≡ got ++ refused) (sym e) is),
+          ap (λ (there : Bool). refused_by Far Far there refused) (eq-eqb n c e),
+        )
 
     others : (n : ℕ) → n ≢ c → ((after n).up ≡ (before n).up) × (refused_by Far Far (n == c) refused ≡ [])
     others n apart = (ap (λ (it : outside.Line). it.up) (b.others n apart), ap (λ (there : Bool). refused_by Far Far there refused) (ne_eqb n c apart))
@@ -202,10 +203,11 @@ pulled_down got refused count near far before after c b is h last t = λ n. reco
   where
     here : (n : ℕ) → n ≡ c → ((after n).down.pushed ≡ (before n).down.pushed) × ((after n).down.pulled ≡ (before n).down.pulled ++ (got ++ refused)) × (refused_by Near Near (n == c) refused ≡ refused)
     here n e =
-        let at = at_line before after c (pulled_from Down count) n b e in
-        (ap (λ (it : outside.Line). it.down.pushed) at,
-        ap (λ (it : outside.Line). it.down.pulled) at ∙ ap (λ (bytes : List ℕ). (before n).down.pulled ++ bytes) (subst (λ (m : ℕ). take count (before m).down.waiting ≡ got ++ refused) (sym e) is),
-        ap (λ (there : Bool). refused_by Near Near there refused) (eq-eqb n c e))
+        let at = at_line before after c (pulled_from Down count) n b e in (
+          ap (λ (it : outside.Line). it.down.pushed) at,
+          ap (λ (it : outside.Line). it.down.pulled) at ∙ ap (λ (bytes : List ℕ). (before n).down.pulled ++ bytes) (subst (λ (m : ℕ). take count (before m).down.waiting ≡ got ++ refused) (sym e) is),
+          ap (λ (there : Bool). refused_by Near Near there refused) (eq-eqb n c e),
+        )
 
     others : (n : ℕ) → n ≢ c → ((after n).down ≡ (before n).down) × (refused_by Near Near (n == c) refused ≡ [])
     others n apart = (ap (λ (it : outside.Line). it.down) (b.others n apart), ap (λ (there : Bool). refused_by Near Near there refused) (ne_eqb n c apart))

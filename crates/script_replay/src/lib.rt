@@ -16,6 +16,3 @@ mod run;
 mod sending;
 
 pub use replaying::replay;
-
-#[cfg(test)]
-mod tests;
