@@ -25,11 +25,11 @@ use Rattle.receipt_laws.proofs.Jobs.{is_back_of, back_is_awaited, back_is_own, s
 use Rattle.receipt_laws.proofs.OutCalls.{calls_hand}
 use Rattle.script_sides.specs.Halves.{HalfState, IsDoneOf}
 use Rattle.script_sides.specs.Progressing.{LoadsPart, LoadsWhole, LoadStops, unloaded, before, IsLast}
-use Rattle.script_sides.specs.Ready.{OwnOf, IsHalf, IsSound}
-use Rattle.script_sides.specs.Sided.{SideRun, state_of}
+use Rattle.script_sides.specs.Ready.{OwnOf, IsHalf, HalfFits, IsSound}
+use Rattle.script_sides.specs.Sided.{SideRun, state_of, half_loaded}
 use Rattle.script_sides.proofs.Kins.{Kin, call_kin, handed_kin}
 use Rattle.script_sides.proofs.Sounds.{called, CallsOn, goes_on, sound_call}
-use Rattle.script_sides.proofs.Words.{JobHas, follow_have, left_in, left_sum, some_left, none_left, all_lack, out_fair, out_left, handed_back, is_awaited, more_loaded}
+use Rattle.script_sides.proofs.Words.{JobHas, follow_have, left_in, left_sum, some_left, none_left, all_fair, all_lack, out_fair, out_left, handed_back, is_awaited, more_loaded}
 use Rattle.side_model.specs.declared.fault.ProxyFault.{ProxyFault}
 use Rattle.side_model.specs.Books.{Book, marked_trail, grown, grow_all, closed}
 use Rattle.side_model.specs.Calls.{Part}
@@ -308,3 +308,27 @@ handed_stops count half done fault it new last d calls =
           let part : WorksInPart (side_seen was it.trail) (side_seen was new) = handed_fails was (done_of done) fault it.trail new last.ready.sound.runs calls in
           record { took = part.took; messages = part.messages; bytes = part.bytes; trail = part.trail; order = part.order };
     }
+
+-- ---- between two calls
+
+-- where copies are awaited, words are left
+pub ready_left : (it : SideRun) → IsSound it → (state_of it).copies ≡ [] ⊎ (0 < words_left (state_of it))
+ready_left it s = by_half it.half s.half
+  where
+    t : TrailState
+    t = it.trail
+
+    by_back : (owed : Owed) → CopiesAre None t.now → AllByRecursion JobHas t.now.kept.jobs → (b : Bool) → all_back t.now.kept.jobs ≡ b
+        → (map words_in (if b then [] else t.now.kept.jobs) ≡ []) ⊎ (0 < sum (map words_in (if b then [] else t.now.kept.jobs)) - sum_by (loaded_in 0) (if b then [] else t.now.kept.jobs))
+    by_back owed h have true e = inl refl
+    by_back owed h have false e =
+        inr (omega (arith, left_sum 0 t.now.kept.jobs (all_fair 0 t.now.kept.jobs h.one), some_left 0 t.now.kept.jobs (all_lack 0 t.now.kept.jobs h.one have) e))
+
+    by_owes : (owes : Option Owed) → JobsFollow owes t.now.kept.jobs → CopiesAre None t.now
+        → (map words_in (awaited owes t.now.kept.jobs) ≡ []) ⊎ (0 < sum (map words_in (awaited owes t.now.kept.jobs)) - sum_by (loaded_in 0) (awaited owes t.now.kept.jobs))
+    by_owes None f h = inl refl
+    by_owes (Some owed) f h = by_back owed h (follow_have owed t.now.kept.jobs f) (all_back t.now.kept.jobs) refl
+
+    by_half : (half : Option HalfState) → HalfFits it.peer t.now half → (side_seen (half_loaded half) t).copies ≡ [] ⊎ (0 < words_left (side_seen (half_loaded half) t))
+    by_half None h = by_owes t.now.live.sending.owes (s.runs.keeps.runs s.runs.goes_on).follows.jobs h
+    by_half (Some half) h = inr (omega (arith, half_words half.loaded h.job t h.copies (omega (arith, h.begun, h.count)), h.begun, h.count))

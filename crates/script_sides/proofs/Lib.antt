@@ -8,3 +8,5 @@ pub mod Backs
 pub mod Links
 pub mod Acting
 pub mod Calls
+pub mod Takes
+pub mod Lends

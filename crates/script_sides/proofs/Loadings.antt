@@ -7,8 +7,13 @@ use Rattle.pair_runs.specs.Loading.{LoadFails, LoadGoes, LoadsLast, LoadsIn, Loa
 use Rattle.pair_runs.specs.Measure.{copies_left}
 use Rattle.pair_runs.specs.Sides.{SideState, all_loaded, words_left}
 use Rattle.pair_runs.specs.Working.{Works, WorksInPart}
+use Rattle.pair_runs.specs.Kept.{HasFailed}
+use Rattle.script_sides.specs.Answering.{Stays, Stops}
 use Rattle.script_sides.specs.Progressing.{LoadsPart, LoadsWhole, LoadsNothing, LoadsRest, LoadStops}
+use Rattle.script_sides.specs.Ready.{IsReady}
+use Rattle.script_sides.specs.Sided.{SideRun, state_of}
 use Rattle.side_model.specs.declared.fault.ProxyFault.{ProxyFault}
+use Rattle.wp_outside.specs.declared.kinds.Side.{Side}
 
 -- ---- so many words
 
@@ -161,3 +166,98 @@ pub rest_less : (a b : SideState) → LoadsRest a b → to_load b < to_load a
 rest_less a b p =
     took_less p.works.took a b p.works.inside.messages
     (ap length p.works.inside.bytes ∙ length-append (joined p.works.took) b.inside.bytes) (λ e. (p.works.awaits.stay e).0) p.awaits
+
+-- ---- sides
+
+pub stays_none : (it : SideRun) → IsReady it → Stays it it
+stays_none it h = record { ready = h; side = refl; up = refl }
+
+pub stays_then : (a b c : SideRun) → Stays a b → Stays b c → Stays a c
+stays_then a b c h k = record { ready = k.ready; side = k.side ∙ h.side; up = k.up ∙ h.up }
+
+pub stays_stops : (a b c : SideRun) (fault : ProxyFault) → Stays a b → Stops b c fault → Stops a c fault
+stays_stops a b c fault h k = record { told = k.told; side = k.side ∙ h.side; failed = subst (λ (it : Side). HasFailed it (state_of c) fault) h.side k.failed }
+
+-- so many words are left of those that were asked for
+pub record Loading (words : ℕ) (old : SideRun) (left : ℕ) (it : SideRun) : Type 0 where
+  pub stays : Stays old it
+  pub wire : it.peer.wire ≡ old.peer.wire
+  pub on : Onward words (state_of old) left (state_of it)
+
+pub loading_none : (words : ℕ) (it : SideRun) → IsReady it → Loading words it words it
+loading_none words it h = record { stays = stays_none it h; wire = refl; on = λ c over stop all. all }
+
+pub loading_part : (words left count : ℕ) (old it new : SideRun) → Loading words old left it → LoadsPart left count (state_of it) (state_of new) → Stays it new → new.peer.wire ≡ it.peer.wire → Loading words old (left - count) new
+loading_part words left count old it new h p stays wire = record {
+  stays = stays_then old it new h.stays stays;
+  wire = wire ∙ h.wire;
+  on = λ c over stop all. h.on c over stop (part_more left count (state_of it) (state_of new) c over stop p all);
+}
+
+pub loading_whole : (words left count : ℕ) (old it new : SideRun) → Loading words old left it → LoadsWhole left count (state_of it) (state_of new) → Stays it new → new.peer.wire ≡ it.peer.wire → Loading words old (left - count) new
+loading_whole words left count old it new h p stays wire = record {
+  stays = stays_then old it new h.stays stays;
+  wire = wire ∙ h.wire;
+  on = λ c over stop all. h.on c over stop (whole_more left count (state_of it) (state_of new) c over stop p all);
+}
+
+pub loading_nothing : (words left : ℕ) (old it new : SideRun) → Loading words old left it → LoadsNothing (state_of it) (state_of new) → Loads words (state_of old) (state_of new) left None
+loading_nothing words left old it new h p = h.on (state_of new) left None (none_awaited left (state_of it) (state_of new) p)
+
+pub loading_stops : (words left : ℕ) (old it new : SideRun) (fault : ProxyFault) → Loading words old left it → 0 < left → LoadStops (state_of it) (state_of new) → Loads words (state_of old) (state_of new) 0 (Some fault)
+loading_stops words left old it new fault h some p = h.on (state_of new) 0 (Some fault) (stops_there left (state_of it) (state_of new) fault some p)
+
+pub loading_ends : (words left : ℕ) (old it : SideRun) → Loading words old left it → left ≡ 0 → (state_of it).copies ≡ [] ⊎ (0 < words_left (state_of it)) → Loads words (state_of old) (state_of it) 0 None
+loading_ends words left old it h e some = h.on (state_of it) 0 None (subst (λ (n : ℕ). Loads n (state_of it) (state_of it) 0 None) (sym e) (none_asked (state_of it) some))
+
+-- some words of the copies of one message are loaded
+pub record Filling (old it : SideRun) : Type 0 where
+  pub stays : Stays old it
+  pub wire : it.peer.wire ≡ old.peer.wire
+  pub part : Partly (state_of old) (state_of it)
+
+pub filling_none : (it : SideRun) → IsReady it → Filling it it
+filling_none it h = record { stays = stays_none it h; wire = refl; part = partly_none (state_of it) }
+
+pub filling_more : (most count : ℕ) (old it new : SideRun) → Filling old it → LoadsPart most count (state_of it) (state_of new) → Stays it new → new.peer.wire ≡ it.peer.wire → Filling old new
+filling_more most count old it new h p stays wire = record {
+  stays = stays_then old it new h.stays stays;
+  wire = wire ∙ h.wire;
+  part = partly_more most count (state_of old) (state_of it) (state_of new) h.part p;
+}
+
+-- all words of some messages are loaded
+pub record Emptying (old : SideRun) (loaded : Bool) (it : SideRun) : Type 0 where
+  pub stays : Stays old it
+  pub wire : it.peer.wire ≡ old.peer.wire
+  pub on : AllOnward (state_of old) (state_of it)
+  pub none : loaded ≡ false → state_of it ≡ state_of old
+  pub some : loaded ≡ true → (state_of old).copies ≢ []
+
+pub emptying_none : (it : SideRun) → IsReady it → Emptying it false it
+emptying_none it h = record {
+  stays = stays_none it h;
+  wire = refl;
+  on = λ c stop all. all;
+  none = λ e. refl;
+  some = λ e. absurd (false_is e);
+}
+  where
+    false_is : false ≡ true → ⊥
+    false_is e = cc
+
+pub emptying_more : (old it new : SideRun) (loaded : Bool) → Emptying old loaded it → LoadsRest (state_of it) (state_of new) → Stays it new → new.peer.wire ≡ it.peer.wire → Emptying old true new
+emptying_more old it new loaded h p stays wire = record {
+  stays = stays_then old it new h.stays stays;
+  wire = wire ∙ h.wire;
+  on = λ c stop all. h.on c stop (rest_more (state_of it) (state_of new) c stop p all);
+  none = λ e. absurd (true_is e);
+  some = λ e. by_loaded loaded refl;
+}
+  where
+    true_is : true ≡ false → ⊥
+    true_is e = cc
+
+    by_loaded : (b : Bool) → loaded ≡ b → (state_of old).copies ≢ []
+    by_loaded true e = h.some e
+    by_loaded false e = λ k. p.awaits (ap (λ (it : SideState). it.copies) (h.none e) ∙ k)

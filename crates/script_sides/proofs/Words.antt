@@ -5,14 +5,15 @@ use Rattle.std.proofs.lemmas.Bool.{cond_both, ltb-true, true≢false, false≢tr
 use Rattle.std.proofs.lemmas.List.Sums.{sum_by-cons, sum_by-append}
 use Rattle.std.proofs.lemmas.List.Folds.{list_all-append}
 use Rattle.std.specs.List.{AllByRecursion}
-use Rattle.std.specs.Prelude.{sum, sum_by, find}
+use Rattle.std.specs.Prelude.{sum, sum_by, find, take}
 use Rattle.block_intervals.specs.declared.run.Run.{Run}
 use Rattle.half_model.specs.Filling.{Part, part_in, parts_from, parts_of_piece, parts_of}
 use Rattle.half_model.specs.Group.{Owed}
 use Rattle.half_model.specs.Jobs.{Job, JobState, Waits, IsOut, IsBack, Done, waits, is_out, is_back, first_waiting, is_done, awaits, handed, all_back}
 use Rattle.half_model.specs.TurnLaws.{JobsOf}
 use Rattle.pair_runs.specs.Sides.{SideState, awaited, loaded_by, loaded_in, words_in, side_seen, words_left}
-use Rattle.pool_words.specs.Views.{EyeState}
+use Rattle.pool_words.specs.declared.views.Sight.{Sight}
+use Rattle.pool_words.specs.Views.{EyeState, sight, sights}
 use Rattle.receipt_laws.specs.Lending.{IsIn, sent_out, OneOut, CopiesAre}
 use Rattle.receipt_laws.proofs.Jobs.{is_not_done, one_back, some_out}
 use Rattle.side_model.proofs.Sounds.{all_append}
@@ -170,3 +171,14 @@ more_loaded half more job t h =
     (ap (λ (it : List Job). sum_by (loaded_in (half + more)) it) jobs
     ∙ out_loaded half more job h.one.before h.one.after h.one.in_before h.one.in_after
     ∙ ap (λ (it : List Job). sum_by (loaded_in half) it + more) (sym jobs))
+
+-- ---- what an eye saw of a row, of which a front was loaded before
+
+front_of : (out back : List ℕ) → take (length out) (out ++ back) ≡ out
+front_of [] back = refl
+front_of (x ∷ out) back = ap (λ (it : List ℕ). x ∷ it) (front_of out back)
+
+pub sights_rows : (i : ℕ) (front out back : List ℕ) → sights i (take (length front + length out) (front ++ (out ++ back))) ≡ sights i front ++ sights (i + length front) out
+sights_rows i [] out back = ap (sights i) (front_of out back) ∙ ap (λ (n : ℕ). sights n out) (omega arith)
+sights_rows i (x ∷ front) out back =
+    ap (λ (it : List Sight). sight i x ∷ it) (sights_rows (i + 1) front out back ∙ ap (λ (n : ℕ). sights (i + 1) front ++ sights n out) (omega arith))

@@ -1,6 +1,7 @@
 //! A copy whose words are loaded a few at a time.
 
-ghost use Rattle.std.specs.Prelude.{◌≡◌, ◌+◌, ◌-◌, ◌≤◌, min, IsTrue, ◌↔◌};
+ghost use Rattle.std.specs.Prelude.{◌≡◌, ◌+◌, ◌-◌, ◌≤◌, length, min, take, IsTrue, ◌↔◌};
+ghost use Rattle.pool_words.specs.Views.{sights};
 ghost use Rattle.copy_workers.specs.Copies.{IsReady};
 ghost use Rattle.script_sides.specs.Halves.{half_of, IsDoneOf};
 
@@ -62,10 +63,11 @@ impl HalfCopy {
         ensures loaded { self.new ≡ record self.old { loaded = self.old.loaded + result } }
         ensures within { self.new.loaded ≤ self.new.count }
     {
+        // The words of a pool are counted by a u32.
+        let _all = self.eye.words();
         let count = most.min(self.words.len() - self.loaded);
-        let (_, rest) = self.words.as_mut_slice().split_at_mut(self.loaded);
-        let (next, _) = rest.split_at_mut(count);
-        self.eye.load(self.first + self.loaded as u32, next);
+        let from = self.loaded;
+        load_row(&mut self.eye, self.first, self.words.as_mut_slice(), from, count);
         self.loaded += count;
         count
     }
@@ -98,4 +100,21 @@ impl HalfCopy {
             receipt: eye.finish(),
         }
     }
+}
+
+// Loads so many words of a row, from this one on.
+fn load_row(eye: &mut Eye, first: u32, words: &mut [u64], from: usize, count: usize)
+    requires row { from + count ≤ length words.old }
+    requires pool { first + length words.old ≤ eye.old.words }
+    requires seen { eye.old.seen ≡ sights first (take from words.old) }
+    ensures count { length words.new ≡ length words.old }
+    ensures eye { eye.new ≡ record eye.old {
+      seen = sights first (take (from + count) words.new);
+    } }
+{
+    // The words of a pool are counted by a u32.
+    let _all = eye.words();
+    let (_, rest) = words.split_at_mut(from);
+    let (next, _) = rest.split_at_mut(count);
+    eye.load(first + from as u32, next);
 }

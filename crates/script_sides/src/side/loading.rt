@@ -1,6 +1,6 @@
 //! How the words of copies are loaded.
 
-ghost use Rattle.std.specs.Prelude.{◌≡◌, ◌<◌, false, None, Ok};
+ghost use Rattle.std.specs.Prelude.{◌≡◌, ◌≢◌, ◌<◌, true, false, [], None, Ok};
 ghost use Rattle.pair_runs.specs.Loading.{LoadsAll};
 ghost use Rattle.script_sides.specs.Answering.{Answers, Leaves};
 ghost use Rattle.script_sides.specs.Progressing.{LoadsBy, LoadsMessage, LoadedBy, Begins, IsLast, before};
@@ -26,7 +26,7 @@ impl ScriptSide {
         ensures wire { self.new.peer.wire ≡ self.old.peer.wire }
     {
         let mut left = words;
-        while left > 0 {
+        'parts: while left > 0 {
             match self.load_some(left)? {
                 Progress::Nothing => return Ok(left),
                 Progress::Part(count) => left -= count,
@@ -45,11 +45,12 @@ impl ScriptSide {
         requires { IsReady self.old }
         ensures loads { Answers result (LoadsAll (state_of self.old) (state_of self.new)) }
         ensures none { result ≡ Ok false → state_of self.new ≡ state_of self.old }
+        ensures some { result ≡ Ok true → (state_of self.old).copies ≢ [] }
         ensures leaves { Leaves result self.old self.new }
         ensures wire { self.new.peer.wire ≡ self.old.peer.wire }
     {
         let mut loaded = false;
-        while self.load_message()? {
+        'messages: while self.load_message()? {
             loaded = true;
         }
         Ok(loaded)
