@@ -22,7 +22,7 @@ use half_model::Limit;
 use pair_report::{Got, ReportOptions, report};
 use proxy_trail::PairRecord;
 use script_lang::{Script, ScriptCause, ScriptRead, read_script, trial_script};
-use script_replay::replay;
+use script_replay::{let_go, replay};
 use std::alloc::{AllocError, Global};
 use wl_wire::Bytes;
 use wp_outside::LinkStore;
@@ -129,7 +129,11 @@ fn answer_played<L: LinkStore>(
         (L.line line.new) reply.text) }
 {
     match replay_of(alloc, script, line) {
-        Ok(pair) => answer_replayed(alloc, options, &pair),
+        Ok(pair) => {
+            let reply = answer_replayed(alloc, options, &pair);
+            let_go(pair);
+            reply
+        }
         Err(error) => Err(error),
     }
 }
