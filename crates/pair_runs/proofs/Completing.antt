@@ -1,5 +1,5 @@
 -- That a run which drains has brought all that the peers put, unless a side was asked to close: what each side took, with what waits, are the bytes that its peer put; where a round changes nothing, no whole message waits.
-use Rattle.std.proofs.Common.{◌≡◌, ℕ, zero, suc, ◌<◌, List, [], ◌∷◌, ◌++◌, length, Bool, true, false, Option, Some, None, refl, sym, ap, subst, ◌∙◌, append_assoc, arith, inl, inr, ◌⊎◌, ⊎_elim, if◌then◌else◌}
+use Rattle.std.proofs.Common.{◌≡◌, ℕ, zero, suc, List, [], ◌∷◌, ◌++◌, length, Bool, true, false, Option, Some, None, refl, sym, ap, subst, ◌∙◌, append_assoc, arith, inl, inr, ◌⊎◌, ⊎_elim, if◌then◌else◌}
 use Rattle.std.proofs.lemmas.List.{append-nil}
 use Rattle.std.specs.List.{AllByRecursion}
 use Rattle.plain_lists.specs.Fronts.{IsFront}
@@ -12,16 +12,14 @@ use Rattle.script_lang.specs.declared.steps.StepKind.{StepKind}
 use Rattle.pair_laws.specs.Everything.{HasAll}
 use Rattle.pair_laws.proofs.Everything.{drained_has_everything}
 use Rattle.pair_laws.proofs.Places.{front_all}
-use Rattle.pair_runs.specs.Completing.{LeavesOpen, NeverAsked, BringsAll, DrainedBringsAll}
+use Rattle.pair_runs.specs.Completing.{LeavesOpen, NeverAsked, DrainedBringsAll}
 use Rattle.pair_runs.specs.Headline.{TakesFirst}
-use Rattle.pair_runs.specs.Kept.{GoesOn, Kept, one_side}
-use Rattle.pair_runs.specs.Moves.{Taken}
+use Rattle.pair_runs.specs.Kept.{Kept, one_side}
 use Rattle.pair_runs.specs.Quiet.{IsDone}
-use Rattle.pair_runs.specs.Runs.{Played, Rounds, Does, Drained, Stopped, Fails, end_by, PlaysLine, Plays, AreLines, Runs, round, MOST, size_after}
-use Rattle.pair_runs.specs.Sides.{SideState}
-use Rattle.pair_runs.specs.States.{State, Fault, first_state, side_at, wire_at}
+use Rattle.pair_runs.specs.Runs.{Played, Rounds, Drained, Stopped, Fails, end_by, PlaysLine, Plays, AreLines, Runs, round, MOST, size_after}
+use Rattle.pair_runs.specs.States.{State, Fault, first_state, side_at}
 use Rattle.pair_runs.proofs.Agreeing.{runs_agree}
-use Rattle.pair_runs.proofs.Bringing.{BringsAt, Both, moves_bring}
+use Rattle.pair_runs.proofs.Bringing.{Both, moves_bring}
 use Rattle.pair_runs.proofs.Keeping.{runs_keep, drains_quietly}
 use Rattle.pair_runs.proofs.Later.{Shut}
 use Rattle.pair_runs.proofs.Ordering.{all_or_shut}
@@ -82,25 +80,25 @@ plays_bring (step ∷ steps) (it ∷ played) most near far s t lines h p =
 -- ---- no line asks a side to close
 
 lines_open : (side : Side) (steps : List Step) (played : List Played) → AreLines steps played → NeverAsked side steps → AllByRecursion (λ it. LeavesOpen side it.what) played
-lines_open side [] [] lines open = tt
-lines_open side [] (it ∷ played) lines open = absurd lines
-lines_open side (step ∷ steps) [] lines open = absurd lines
-lines_open side (step ∷ steps) (it ∷ played) lines open = (subst (LeavesOpen side) (sym lines.0) open.0, lines_open side steps played lines.2 open.1)
+lines_open side [] [] lines opened = tt
+lines_open side [] (it ∷ played) lines opened = absurd lines
+lines_open side (step ∷ steps) [] lines opened = absurd lines
+lines_open side (step ∷ steps) (it ∷ played) lines opened = (subst (LeavesOpen side) (sym lines.0) opened.0, lines_open side steps played lines.2 opened.1)
 
 first_open : (side : Side) → asked_at side first_state ≡ false
 first_open Near = refl
 first_open Far = refl
 
 never_asked : (side : Side) (steps : List Step) (played : List Played) (last : State) → Runs steps played last Drained → NeverAsked side steps → asked_at side last ≡ false
-never_asked side steps played last r open = plays_stay side played MOST first_state last (lines_open side steps played r.lines open) r.plays ∙ first_open side
+never_asked side steps played last r opened = plays_stay side played MOST first_state last (lines_open side steps played r.lines opened) r.plays ∙ first_open side
 
 -- ---- all was taken
 
 not_shut : (side : Side) (s : State) → asked_at side s ≡ false → Shut (side_at side s) → ⊥
-not_shut side s open shut = let never : true ≡ false = sym shut.said ∙ open in cc
+not_shut side s opened shut = let never : true ≡ false = sym shut.said ∙ opened in cc
 
 whole : (side : Side) (s : State) (put : List ℕ) → asked_at side s ≡ false → IsFront (side_at side s).book.trail.taken (cut put) → (length (side_at side s).book.trail.taken ≡ length (cut put)) ⊎ Shut (side_at side s) → (side_at side s).book.trail.taken ≡ cut put
-whole side s put open front all = ⊎_elim (λ same. front_all front (omega (arith, same))) (λ shut. absurd (not_shut side s open shut)) all
+whole side s put opened front all = ⊎_elim (λ same. front_all front (omega (arith, same))) (λ shut. absurd (not_shut side s opened shut)) all
 
 begins : Both [] [] first_state
 begins = record { near_brings = record { whole = tt; bytes = refl }; far_brings = record { whole = tt; bytes = refl } }
@@ -117,9 +115,9 @@ took_all steps played last r done =
     let both : Both (puts Near steps) (puts Far steps) last = plays_bring steps played MOST [] [] first_state last r.lines begins r.plays in
     let first : TakesFirst steps last = runs_take_first steps played last Drained r in
     record {
-      near = λ open. whole Near last (puts Near steps) (never_asked Near steps played last r open) first.near
+      near = λ opened. whole Near last (puts Near steps) (never_asked Near steps played last r opened) first.near
           (all_or_shut Near quiet.0 last (puts Near steps) kept.0 kept quiet.1 each.near_takes done.near_copies done.drained.near_drained.known both.near_brings);
-      far = λ open. whole Far last (puts Far steps) (never_asked Far steps played last r open) first.far
+      far = λ opened. whole Far last (puts Far steps) (never_asked Far steps played last r opened) first.far
           (all_or_shut Far quiet.0 last (puts Far steps) kept.1 kept quiet.1 each.far_takes done.far_copies done.drained.far_drained.known both.far_brings);
     }
 
@@ -130,7 +128,8 @@ drained_brings_all steps played last r h =
     let all : HasAll (one_side last.near None) (one_side last.far None) done.pair = drained_has_everything (one_side last.near None) (one_side last.far None) done.pair done.drained in
     record {
       done = done;
-      up = λ open. all.up ∙ took.near open;
+      requests = took.near;
       events = took.far;
+      up = all.up;
       down = all.down;
     }

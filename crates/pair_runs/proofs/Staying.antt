@@ -1,5 +1,5 @@
 -- That a side is not asked to close by moves other than those that ask it.
-use Rattle.std.proofs.Common.{◌≡◌, ◌≢◌, ℕ, zero, suc, ◌-◌, List, [], ◌∷◌, ◌++◌, take, drop, length, Bool, true, false, is_none, ◌&&◌, ◌||◌, Option, Some, None, refl, sym, ap, subst, ◌∙◌, inl, inr}
+use Rattle.std.proofs.Common.{◌≡◌, ◌≢◌, ℕ, zero, suc, ◌-◌, List, [], ◌∷◌, ◌++◌, take, drop, length, Bool, true, false, is_none, ◌&&◌, ◌||◌, Option, Some, None, refl, sym, ap, ◌∙◌, inl, inr}
 use Rattle.std.specs.List.{AllByRecursion}
 use Rattle.wp_outside.specs.declared.kinds.Direction.{Direction}
 use Rattle.wp_outside.specs.declared.kinds.Side.{Side}
@@ -11,14 +11,13 @@ use Rattle.script_lang.specs.declared.steps.StepKind.{StepKind}
 use Rattle.script_lang.specs.declared.steps.StepKind.TheVariants as line
 use Rattle.side_model.specs.declared.fault.ProxyFault.{ProxyFault}
 use Rattle.pair_runs.specs.Completing.{LeavesOpen}
-use Rattle.pair_runs.specs.Linking.{Reads, read}
+use Rattle.pair_runs.specs.Linking.{Reads}
 use Rattle.pair_runs.specs.Loading.{LoadsIn, LoadsAllIn, Loads, LoadsAll}
-use Rattle.pair_runs.specs.Moves.{Move, Put, Take, Load, LoadAll, Connect, ConnectIfHeld, Break, Push, Pull, Spoil, Close, at_side, LoadedThen, holds, ConnectBy, ConnectedBy, Connected, WritesBy, PushedOn, PulledBy, PulledOff, Changes, MovesAll, spoiled}
+use Rattle.pair_runs.specs.Moves.{Move, Put, Take, Load, LoadAll, Connect, ConnectIfHeld, Break, Push, Pull, Spoil, Close, at_side, LoadedThen, holds, ConnectedBy, Connected, WritesBy, PushedOn, PulledBy, PulledOff, Changes, MovesAll, spoiled}
 use Rattle.pair_runs.specs.Runs.{Played, Rounds, settles, moves_of, Does, DoesBy, Drained, Stopped, Fails, end_by, PlaysLine, Plays, round, MOST, size_after}
-use Rattle.pair_runs.specs.Sides.{SideState, fed, all_loaded}
+use Rattle.pair_runs.specs.Sides.{SideState, fed}
 use Rattle.pair_runs.specs.States.{State, Lanes, Fault, side_at, with_side, wire_at, with_wire, lane_at, on_lane, writer, reader}
 use Rattle.pair_runs.specs.Taking.{Cut, cut_item, Taker, TakesAll, TakesIn}
-use Rattle.pair_runs.specs.Working.{Works}
 
 -- ---- one side
 
@@ -157,8 +156,8 @@ other_stays Far Near b s never = refl
 other_stays Far Far b s never = absurd (never refl)
 
 move_stays : (side : Side) (move : Move) (s t : State) → MovesOpen side move → Changes move s t None → asked_at side t ≡ asked_at side s
-move_stays side (Put whose put) s t open c = ap (asked_at side) c.0 ∙ wire_stays side whose (wire_at whose s ++ put) s
-move_stays side (Take whose most) s t open (b, (fault, all, is, stops)) = go fault all stops
+move_stays side (Put whose put) s t opened c = ap (asked_at side) c.0 ∙ wire_stays side whose (wire_at whose s ++ put) s
+move_stays side (Take whose most) s t opened (b, (fault, all, is, stops)) = go fault all stops
   where
     go : (fault : Option ProxyFault) → TakesAll most (record { side = side_at whose s; wire = wire_at whose s }) b fault → None ≡ at_side whose fault → asked_at side t ≡ asked_at side s
     go (Some it) all e = absurd (none_fails whose it e)
@@ -167,80 +166,80 @@ move_stays side (Take whose most) s t open (b, (fault, all, is, stops)) = go fau
         ap (asked_at side) is
         ∙ one_stays side whose b.side (with_wire whose b.wire s) (stays ∙ ap (λ (it : SideState). it.inside.asked) (sym (same_at whose b.wire s)))
         ∙ wire_stays side whose b.wire s
-move_stays side (Load words) s t open c = loaded_stays side words s t c
-move_stays side (LoadAll whose) s t open (b, (fault, all, is, stops)) = go fault all stops
+move_stays side (Load words) s t opened c = loaded_stays side words s t c
+move_stays side (LoadAll whose) s t opened (b, (fault, all, is, stops)) = go fault all stops
   where
     go : (fault : Option ProxyFault) → LoadsAll (side_at whose s) b fault → None ≡ at_side whose fault → asked_at side t ≡ asked_at side s
     go (Some it) all e = absurd (none_fails whose it e)
     go None all e = ap (asked_at side) is ∙ one_stays side whose b s (all_stay all.count (side_at whose s) b all.row)
-move_stays side Connect s t open c = connected_stays side true s t c
-move_stays side ConnectIfHeld s t open c = connected_stays side (holds s.near || holds s.far) s t c
-move_stays side Break s t open c = ap (asked_at side) c.0 ∙ broken_stays side s
-move_stays side (Push dir most) s t open c = pushed_stays side dir most s t s.line c
-move_stays side (Pull dir most) s t open c = pulled_stays side dir most s t s.line c
-move_stays side (Spoil dir offset byte) s t open c = ap (asked_at side) c.0 ∙ lane_stays side dir (spoiled offset byte) s
-move_stays side (Close whose) s t open (b, (fault, closes, is, stops)) = ap (asked_at side) is ∙ other_stays side whose b s open
+move_stays side Connect s t opened c = connected_stays side true s t c
+move_stays side ConnectIfHeld s t opened c = connected_stays side (holds s.near || holds s.far) s t c
+move_stays side Break s t opened c = ap (asked_at side) c.0 ∙ broken_stays side s
+move_stays side (Push dir most) s t opened c = pushed_stays side dir most s t s.line c
+move_stays side (Pull dir most) s t opened c = pulled_stays side dir most s t s.line c
+move_stays side (Spoil dir offset byte) s t opened c = ap (asked_at side) c.0 ∙ lane_stays side dir (spoiled offset byte) s
+move_stays side (Close whose) s t opened (b, (fault, closes, is, stops)) = ap (asked_at side) is ∙ other_stays side whose b s opened
 
 moves_stay : (side : Side) (moves : List Move) (s t : State) → AllByRecursion (MovesOpen side) moves → MovesAll moves s t None → asked_at side t ≡ asked_at side s
-moves_stay side [] s t open m = ap (asked_at side) m.0
-moves_stay side (move ∷ moves) s t open m = elim m [
+moves_stay side [] s t opened m = ap (asked_at side) m.0
+moves_stay side (move ∷ moves) s t opened m = elim m [
   | inl fails ↦ absurd (let never : None ≡ Some fails.0 = fails.2 in cc)
-  | inr goes ↦ moves_stay side moves goes.0 t open.1 goes.2 ∙ move_stays side move s goes.0 open.0 goes.1.changes
+  | inr goes ↦ moves_stay side moves goes.0 t opened.1 goes.2 ∙ move_stays side move s goes.0 opened.0 goes.1.changes
 ]
 
 -- ---- rounds and lines
 
 round_open : (side : Side) (most : ℕ) → AllByRecursion (MovesOpen side) (round most)
-round_open side most = (tt, tt, tt, tt, tt, tt, tt, tt, tt, tt)
+round_open side most = (tt, (tt, (tt, (tt, (tt, (tt, (tt, (tt, (tt, tt)))))))))
 
 rounds_stay : (side : Side) (count most : ℕ) (s t : State) → Rounds count most s t None → asked_at side t ≡ asked_at side s
 rounds_stay side zero most s t r = moves_stay side (round most) s t (round_open side most) r.0
 rounds_stay side (suc count) most s t r = rounds_stay side count most r.0 t r.3 ∙ moves_stay side (round most) s r.0 (round_open side most) r.1
 
 line_open : (side : Side) (what : StepKind) (puts : List PeerIn) → LeavesOpen side what → AllByRecursion (MovesOpen side) (moves_of what puts)
-line_open side (line.Hex peer bytes) puts open = (tt, tt)
-line_open side (line.Say peer text) puts open = (tt, tt)
-line_open side (line.File peer number size) puts open = tt
-line_open side (line.Grow peer number size) puts open = tt
-line_open side (line.Fill peer number first count value) puts open = tt
-line_open side (line.Pipe peer number) puts open = tt
-line_open side (line.Give peer number) puts open = (tt, tt)
-line_open side (line.Put peer pipe bytes) puts open = (tt, tt)
-line_open side (line.End peer pipe) puts open = (tt, tt)
-line_open side (line.Shut peer number) puts open = (tt, tt)
-line_open side (line.Await peer count) puts open = tt
-line_open side (line.Take peer bytes) puts open = (tt, tt)
-line_open side (line.Load words) puts open = (tt, tt)
-line_open side line.Connect puts open = (tt, tt)
-line_open side line.Break puts open = (tt, tt)
-line_open side (line.Send dir bytes) puts open = (tt, tt)
-line_open side (line.Recv dir bytes) puts open = (tt, tt)
-line_open side (line.Both dir bytes) puts open = (tt, tt, tt)
-line_open side (line.Spoil dir offset byte) puts open = (tt, tt)
-line_open side (line.Cut dir bytes) puts open = tt
-line_open side (line.Close peer) puts open = (open, tt)
-line_open side line.Settle puts open = tt
-line_open side (line.Drain bytes) puts open = tt
-line_open side line.Stop puts open = tt
+line_open side (line.Hex peer bytes) puts opened = (tt, tt)
+line_open side (line.Say peer text) puts opened = (tt, tt)
+line_open side (line.File peer number size) puts opened = tt
+line_open side (line.Grow peer number size) puts opened = tt
+line_open side (line.Fill peer number first count value) puts opened = tt
+line_open side (line.Pipe peer number) puts opened = tt
+line_open side (line.Give peer number) puts opened = (tt, tt)
+line_open side (line.Put peer pipe bytes) puts opened = (tt, tt)
+line_open side (line.End peer pipe) puts opened = (tt, tt)
+line_open side (line.Shut peer number) puts opened = (tt, tt)
+line_open side (line.Await peer count) puts opened = tt
+line_open side (line.Take peer bytes) puts opened = (tt, tt)
+line_open side (line.Load words) puts opened = (tt, tt)
+line_open side line.Connect puts opened = (tt, tt)
+line_open side line.Break puts opened = (tt, tt)
+line_open side (line.Send dir bytes) puts opened = (tt, tt)
+line_open side (line.Recv dir bytes) puts opened = (tt, tt)
+line_open side (line.Both dir bytes) puts opened = (tt, (tt, tt))
+line_open side (line.Spoil dir offset byte) puts opened = (tt, tt)
+line_open side (line.Cut dir bytes) puts opened = tt
+line_open side (line.Close peer) puts opened = (opened, tt)
+line_open side line.Settle puts opened = tt
+line_open side (line.Drain bytes) puts opened = tt
+line_open side line.Stop puts opened = tt
 
 does_stay : (side : Side) (it : Played) (s t : State) → LeavesOpen side it.what → Does it s t None → asked_at side t ≡ asked_at side s
-does_stay side it s t open d = go (settles it.what) d
+does_stay side it s t opened d = go (settles it.what) d
   where
     go : (b : Bool) → DoesBy b it s t None → asked_at side t ≡ asked_at side s
     go true h = rounds_stay side h.count MOST s t h.rounds
-    go false h = moves_stay side (moves_of it.what it.puts) s t (line_open side it.what it.puts open) h
+    go false h = moves_stay side (moves_of it.what it.puts) s t (line_open side it.what it.puts opened) h
 
 -- a run that drains leaves a side as little asked to close as its lines do
 pub plays_stay : (side : Side) (played : List Played) (most : ℕ) (s t : State) → AllByRecursion (λ it. LeavesOpen side it.what) played → Plays played most s t Drained → asked_at side t ≡ asked_at side s
-plays_stay side [] most s t open (stop, settled, is) = go stop is settled.rounds
+plays_stay side [] most s t opened (stop, settled, is) = go stop is settled.rounds
   where
     go : (stop : Option Fault) → Drained ≡ end_by stop → Rounds settled.count most s t stop → asked_at side t ≡ asked_at side s
     go (Some fault) e r = absurd (let never : Drained ≡ Fails fault = e in cc)
     go None e r = rounds_stay side settled.count most s t r
-plays_stay side (it ∷ played) most s t open p = go (λ between more. plays_stay side played (size_after most it.what) between t open.1 more) (is_stop it.what) p
+plays_stay side (it ∷ played) most s t opened p = go (λ between more. plays_stay side played (size_after most it.what) between t opened.1 more) (is_stop it.what) p
   where
     go : ((between : State) → Plays played (size_after most it.what) between t Drained → asked_at side t ≡ asked_at side between) → (b : Bool)
         → PlaysLine b it (λ between. Plays played (size_after most it.what) between t Drained) s t Drained → asked_at side t ≡ asked_at side s
     go others true h = absurd (let never : Drained ≡ Stopped = h.1 in cc)
     go others false (inl fails) = absurd (let never : Drained ≡ Fails fails.0 = fails.2 in cc)
-    go others false (inr goes) = others goes.0 goes.2 ∙ does_stay side it s goes.0 open.0 goes.1
+    go others false (inr goes) = others goes.0 goes.2 ∙ does_stay side it s goes.0 opened.0 goes.1

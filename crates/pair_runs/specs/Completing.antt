@@ -27,16 +27,15 @@ LeavesOpen side what = Unit {0}
 abbrev pub NeverAsked : Side → List Step → Type 0
 NeverAsked side steps = AllByRecursion (λ it. LeavesOpen side it.what) steps
 
--- Where nothing is left to move and the near side was not asked to close, the compositor has
--- received each message that the application put. Where the far side was not, that side's order has
--- each message that the compositor put, and the application has received all that the registry view
--- shows of this order.
+-- Nothing is left to move. A side that was never asked to close took each message that its peer put.
+-- The compositor has received all that the near side took, and the application all that the registry
+-- view shows of the far side's order.
 pub record BringsAll (steps : List Step) (last : State) : Type 0 where
   pub done : IsDone last
-  pub up : NeverAsked Near steps
-      → messages (received_by Far (one_side last.far None) done.pair.other_law)
-      ≡ cut (puts Near steps)
+  pub requests : NeverAsked Near steps → last.near.book.trail.taken ≡ cut (puts Near steps)
   pub events : NeverAsked Far steps → last.far.book.trail.taken ≡ cut (puts Far steps)
+  pub up : messages (received_by Far (one_side last.far None) done.pair.other_law)
+      ≡ last.near.book.trail.taken
   pub down : messages (received_by Near (one_side last.near None) done.pair.one_law)
       ≡ visible first_state (passing_by Far (one_side last.far None) done.pair.other_law)
 

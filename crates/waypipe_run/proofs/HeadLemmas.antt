@@ -21,6 +21,7 @@ use Rattle.pair_laws.specs.Pairs.{OneSide, IsPair}
 use Rattle.pair_laws.specs.Passing.{passing, passing_by}
 use Rattle.pair_laws.proofs.Passing.{order_has_both}
 use Rattle.pair_runs.specs.Agreeing.{IsSparing, SparesAll}
+use Rattle.pair_runs.specs.Completing.{BringsAll}
 use Rattle.pair_runs.specs.Headline.{Receives, TakesFirst, fault_of}
 use Rattle.pair_runs.specs.Kept.{one_side}
 use Rattle.pair_runs.specs.Orders.{Allowed}
@@ -29,7 +30,7 @@ use Rattle.pair_runs.specs.RunLaws.{fault_by}
 use Rattle.pair_runs.specs.Runs.{Played, AreLines, End, Drained, Runs}
 use Rattle.pair_runs.specs.Sides.{SideState, TOKEN, side_seen}
 use Rattle.pair_runs.specs.States.{State, Fault}
-use Rattle.pair_runs.proofs.Agreeing.{runs_agree}
+use Rattle.pair_runs.proofs.Completing.{drained_brings_all}
 use Rattle.pair_runs.proofs.Allowing.{runs_are_allowed}
 use Rattle.pair_runs.proofs.Ends.{front_then}
 use Rattle.pair_runs.proofs.Keeping.{runs_keep}
@@ -133,7 +134,8 @@ allowed steps ln pair it given orders =
 all_received : (steps : List Step) (ln : ℕ → Line) (pair : PairRecord) (it : Replays steps ln pair) → SparesAll it.played → it.end ≡ Drained → HasReceivedAll steps (told_of pair) × IsDone it.last
 all_received steps ln pair it h drained =
     let runs : Runs steps it.played it.last Drained = subst (Runs steps it.played it.last) drained it.runs in
-    let done : IsDone it.last = runs_agree.done steps it.played it.last runs h in
+    let brings : BringsAll steps it.last = drained_brings_all steps it.played it.last runs h in
+    let done : IsDone it.last = brings.done in
     let orders = has_orders it.last done in
     let nears = order_has_both Near (one_side it.last.near None) done.pair.one_law in
     let fars = order_has_both Far (one_side it.last.far None) done.pair.other_law in
@@ -142,6 +144,8 @@ all_received steps ln pair it h drained =
     let order = told_order Far pair.far pair.compositor it.last.far None done.pair.other_law it.far in (
       record {
         no_stop = drains_without_stop steps it.played it.last runs;
+        requests = λ opened. told_taken pair.near it.last.near it.near ∙ brings.requests opened;
+        events = λ opened. told_taken pair.far it.last.far it.far ∙ brings.events opened;
         up = ap messages_in far_frames ∙ sym fars.heard ∙ orders.far_requests ∙ sym (told_taken pair.near it.last.near it.near);
         down = ap messages_in near_frames ∙ sym nears.heard ∙ orders.near_events ∙ ap (visible first_state) (sym order);
       },

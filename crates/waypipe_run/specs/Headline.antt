@@ -13,6 +13,7 @@ use Rattle.script_lang.specs.Puts.{puts, before_stop}
 use Rattle.script_lang.specs.declared.steps.Step.{Step}
 use Rattle.pair_model.specs.Lines.{Agrees}
 use Rattle.pair_laws.specs.Passing.{passing}
+use Rattle.pair_runs.specs.Completing.{NeverAsked}
 use Rattle.pair_runs.specs.Headline.{Receives}
 use Rattle.pair_runs.specs.Kept.{Kept}
 use Rattle.pair_runs.specs.Orders.{Allowed}
@@ -41,11 +42,14 @@ pub record ReceivesFirst (steps : List Step) (pair : PairTold) : Type 0 where
   pub down : IsFront (meant_at pair.near).messages (visible first_state (passed_at Far pair.far))
   pub events : IsFront pair.far.book.trail.taken (cut (puts Far steps))
 
--- Where nothing moved any more, the script has no line `stop`, and each peer has received all that
--- the other one's proxy took; both sides know that all their frames were accepted, and wait for no
--- copy.
+-- Where nothing moved any more, the script has no line `stop`. A side that no line asks to close has
+-- taken each message that the script's lines put on its peer's wire. The compositor has received all
+-- that the near side took, and the application all that the registry view shows of the far side's
+-- order.
 pub record HasReceivedAll (steps : List Step) (pair : PairTold) : Type 0 where
   pub no_stop : before_stop steps ≡ steps
+  pub requests : NeverAsked Near steps → pair.near.book.trail.taken ≡ cut (puts Near steps)
+  pub events : NeverAsked Far steps → pair.far.book.trail.taken ≡ cut (puts Far steps)
   pub up : (meant_at pair.far).messages ≡ pair.near.book.trail.taken
   pub down : (meant_at pair.near).messages ≡ visible first_state (passed_at Far pair.far)
 
@@ -59,6 +63,7 @@ pub record Holds (steps : List Step) (line : ℕ → Line) (pair : PairRecord)
   pub allowed : Allowed steps (passed_at Near (told_of pair).near) (passed_at Far (told_of pair).far)
   -- the records are lawful: what was written, accepted and kept
   pub kept : Kept (fault_by it.end) it.last
+  -- and where nothing moved any more, nothing is left to move
   pub drained : it.end ≡ Drained → HasReceivedAll steps (told_of pair) × IsDone it.last
 
 -- Of a script whose lines are all run.

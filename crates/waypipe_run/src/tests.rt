@@ -1,8 +1,8 @@
 //! The call as the program makes it, over sources, sinks and a link in memory.
-mod both_ways;
 mod ends;
 mod listings;
 mod pictures;
+mod refusals;
 mod rows;
 
 use crate::plain::run_plain;
@@ -13,6 +13,35 @@ use wp_outside::{LineStore, MemorySink, MemorySource};
 /// The line for words that are no command.
 const USAGE: &str =
     "usage: waypipe replay [--text] [--long] or frames or trial N or session [--workers N] [--link memory or tcp] [--text] [--long]";
+
+/// A row: its name, the words, the parts of the input, the status, and lines that the text has, in
+/// this order, the last one at its end.
+#[derive(Clone, Copy)]
+struct Row {
+    name: &'static str,
+    words: &'static str,
+    input: &'static [&'static str],
+    status: Status,
+    wanted: &'static [&'static str],
+}
+
+/// The first of these rows that is not answered as it says, and what is wrong with it.
+fn first_wrong(
+    alloc: Global,
+    rows: &[Row],
+) -> Result<Option<(&'static str, &'static str)>, AllocError> {
+    for row in rows {
+        let input = joined(alloc, row.input)?;
+        let (status, text) = answered(alloc, row.words, input.as_slice())?;
+        if status != row.status {
+            return Ok(Some((row.name, "the status")));
+        }
+        if let Some(line) = first_missing(text.as_slice(), row.wanted) {
+            return Ok(Some((row.name, line)));
+        }
+    }
+    Ok(None)
+}
 
 /// What a run over an input answers and writes, where the sink has so many places and the calls of
 /// these numbers fail.

@@ -1,10 +1,17 @@
 //! Scripts of messages and of moves of bytes: what each answers and writes.
-use super::{USAGE, answered, first_missing, joined};
+use super::{Row, answered, first_missing, first_wrong};
+use crate::status::Status;
+use script_lang::ScriptCause;
+use std::alloc::{AllocError, Global};
 use std::test::Fail;
 
 const REGISTRY: &str = "app wl_display@1.get_registry(new @2)\n";
 
 const ONE: &str = "app hex 0100000000000c0002000000\n";
+
+/// An offer of a text that the application hears of.
+const OFFER: &str =
+    "app wl_registry@2.bind(1, \"wl_data_device_manager\" 3 new @3)\napp wl_registry@2.bind(2, \"wl_seat\" 7 new @4)\napp wl_data_device_manager@3.get_data_device(new @5, @4)\nsettle\ncomp wl_data_device@5.data_offer(new @4278190080)\ncomp wl_data_offer@4278190080.offer(\"text/plain\")\nsettle\n";
 
 /// A client that makes a window and draws it twice.
 const REALISTIC: &str = "app file 1 2457600
@@ -52,21 +59,12 @@ comp await 21
 comp wl_buffer@10.release()
 ";
 
-/// One row: its name, the command, the parts of the script, and lines that the text has, in this
-/// order, the last one at its end.
-#[derive(Clone, Copy)]
-struct Row {
-    name: &'static str,
-    command: &'static str,
-    script: &'static [&'static str],
-    wanted: &'static [&'static str],
-}
-
 const ROWS: &[Row] = &[
     Row {
         name: "empty-script",
-        command: "replay",
-        script: &[],
+        words: "replay",
+        input: &[],
+        status: Status::Done,
         wanted: &[
             "connections 0",
             "application sent 0 received 0",
@@ -76,8 +74,9 @@ const ROWS: &[Row] = &[
     },
     Row {
         name: "one-message",
-        command: "replay --long",
-        script: &[ONE, "drain 1\n"],
+        words: "replay --long",
+        input: &[ONE, "drain 1\n"],
+        status: Status::Done,
         wanted: &[
             "connections 1",
             "application sent 1 received 0",
@@ -92,8 +91,9 @@ const ROWS: &[Row] = &[
     },
     Row {
         name: "realistic-client",
-        command: "replay --long",
-        script: &[REALISTIC],
+        words: "replay --long",
+        input: &[REALISTIC],
+        status: Status::Done,
         wanted: &[
             "application sent 21 received 12",
             "compositor sent 12 received 21",
@@ -105,11 +105,12 @@ const ROWS: &[Row] = &[
     },
     Row {
         name: "hidden-globals",
-        command: "replay --text",
-        script: &[
+        words: "replay --text",
+        input: &[
             REGISTRY,
             "settle\ncomp wl_registry@2.global(5, \"zwp_linux_dmabuf_v1\", 4)\ncomp wl_registry@2.global_remove(5)\ncomp wl_registry@2.global(6, \"wl_seat\", 9)\n",
         ],
+        status: Status::Done,
         wanted: &[
             "connections 1",
             "application sent 1 received 1",
@@ -120,18 +121,13 @@ const ROWS: &[Row] = &[
         ],
     },
     Row {
-        name: "bad-size",
-        command: "replay",
-        script: &["app hex 0100000000000400\n"],
-        wanted: &["peer application message 0: SizeSmall"],
-    },
-    Row {
         name: "lost-lines",
-        command: "replay --long",
-        script: &[
+        words: "replay --long",
+        input: &[
             ONE,
             "take app 12\nconnect\nsend up 32\nbreak\nconnect\nsend down 32\nbreak\n",
         ],
+        status: Status::Done,
         wanted: &[
             "connections 3",
             "application sent 1 received 0",
@@ -148,14 +144,15 @@ const ROWS: &[Row] = &[
     },
     Row {
         name: "two-files",
-        command: "replay --text",
-        script: &[
+        words: "replay --text",
+        input: &[
             "app file 1 64\napp file 2 128\n",
             REGISTRY,
             "app wl_registry@2.bind(1, \"wl_shm\" 1 new @4)\napp give 1\n",
             "app give 2\n",
             "app hex 0400000000001000060000004000000004000000000010000700000080000000\n",
         ],
+        status: Status::Done,
         wanted: &[
             "got compositor wl_shm@4.create_pool(new @6, fd %1, 64)",
             "got compositor wl_shm@4.create_pool(new @7, fd %2, 128)",
@@ -163,23 +160,13 @@ const ROWS: &[Row] = &[
         ],
     },
     Row {
-        name: "two-files, one given",
-        command: "replay --text",
-        script: &[
-            "app file 1 64\napp file 2 128\n",
-            REGISTRY,
-            "app wl_registry@2.bind(1, \"wl_shm\" 1 new @4)\napp give 1\n",
-            "app hex 0400000000001000060000004000000004000000000010000700000080000000\n",
-        ],
-        wanted: &["peer application message 3: HandleMissing"],
-    },
-    Row {
         name: "pipe",
-        command: "replay --long",
-        script: &[
+        words: "replay --long",
+        input: &[
             REGISTRY,
             "app wl_registry@2.bind(1, \"wl_data_device_manager\" 3 new @3)\napp wl_registry@2.bind(2, \"wl_seat\" 7 new @4)\napp wl_data_device_manager@3.get_data_device(new @5, @4)\nsettle\ncomp wl_data_device@5.data_offer(new @4278190080)\ncomp wl_data_offer@4278190080.offer(\"text/plain\")\nsettle\napp pipe 1\napp wl_data_offer@4278190080.receive(\"text/plain\", fd %1)\nsettle\ncomp put 1 6869\ncomp end 1\n",
         ],
+        status: Status::Done,
         wanted: &[
             "near made 7 acknowledged 7 accepted 4",
             "far made 4 acknowledged 4 accepted 7",
@@ -189,12 +176,13 @@ const ROWS: &[Row] = &[
     },
     Row {
         name: "keymap",
-        command: "replay --long",
-        script: &[
+        words: "replay --long",
+        input: &[
             "comp file -1 64\ncomp fill -1 0 8 7\n",
             REGISTRY,
             "app wl_registry@2.bind(1, \"wl_seat\" 7 new @3)\napp wl_seat@3.get_keyboard(new @4)\nsettle\ncomp wl_keyboard@4.keymap(1, fd %-1, 60)\n",
         ],
+        status: Status::Done,
         wanted: &[
             "far made 4 acknowledged 4 accepted 3",
             "mirror -1 size 60 sum 56",
@@ -202,30 +190,10 @@ const ROWS: &[Row] = &[
         ],
     },
     Row {
-        name: "misspelt-message",
-        command: "replay",
-        script: &["connect\napp wl_surface@5.dammage(0, 0, 1, 1)\n"],
-        wanted: &["script line 2: Message"],
-    },
-    Row {
-        name: "restart-behind",
-        command: "replay",
-        script: &[
-            ONE,
-            "settle\nbreak\nconnect\nsend down 32\nspoil down 24 00\nrecv down 32\n",
-        ],
-        wanted: &["script line 6: NotBuilt"],
-    },
-    Row {
-        name: "no command",
-        command: "replay --long --long",
-        script: &[ONE],
-        wanted: &[USAGE],
-    },
-    Row {
         name: "both options",
-        command: "replay --long --text",
-        script: &["app wl_display@1.sync(new @2)\n"],
+        words: "replay --long --text",
+        input: &["app wl_display@1.sync(new @2)\n"],
+        status: Status::Done,
         wanted: &[
             "link 1 up written 48 read 48",
             "got compositor wl_display@1.sync(new @2)",
@@ -233,33 +201,15 @@ const ROWS: &[Row] = &[
         ],
     },
     Row {
-        name: "frames and a word",
-        command: "frames --text",
-        script: &[],
-        wanted: &[USAGE],
-    },
-    Row {
-        name: "id-reuse",
-        command: "replay",
-        script: &[
-            REGISTRY,
-            "app wl_registry@2.bind(1, \"wl_compositor\" 6 new @3)\napp wl_compositor@3.create_surface(new @5)\napp wl_surface@5.destroy()\n",
-            "app wl_compositor@3.create_surface(new @5)\n",
-        ],
-        wanted: &[
-            "application sent 4 received 0",
-            "peer application message 4: IdInUse",
-        ],
-    },
-    Row {
         name: "id-reuse, deleted",
-        command: "replay --text",
-        script: &[
+        words: "replay --text",
+        input: &[
             REGISTRY,
             "app wl_registry@2.bind(1, \"wl_compositor\" 6 new @3)\napp wl_compositor@3.create_surface(new @5)\napp wl_surface@5.destroy()\n",
             "settle\ncomp wl_display@1.delete_id(5)\nsettle\n",
             "app wl_compositor@3.create_surface(new @5)\n",
         ],
+        status: Status::Done,
         wanted: &[
             "application sent 5 received 1",
             "compositor sent 1 received 5",
@@ -270,19 +220,205 @@ const ROWS: &[Row] = &[
             "drained",
         ],
     },
+    Row {
+        name: "two connections",
+        words: "replay",
+        input: &[
+            "app wl_display@1.sync(new @2)\nsettle\nbreak\n",
+            "app wl_display@1.sync(new @3)\nsettle\napp wl_display@1.sync(new @4)\n",
+        ],
+        status: Status::Done,
+        wanted: &[
+            "connections 2",
+            "application sent 3 received 0",
+            "compositor sent 0 received 3",
+            "got compositor 0100000000000c0002000000",
+            "got compositor 0100000000000c0003000000",
+            "got compositor 0100000000000c0004000000",
+            "drained",
+        ],
+    },
+    Row {
+        name: "handles by their rids",
+        words: "replay --text",
+        input: &[
+            "app file 31 64\napp file 30 128\n",
+            REGISTRY,
+            "app wl_registry@2.bind(1, \"wl_shm\" 1 new @4)\napp wl_shm@4.create_pool(new @6, fd %31, 64)\napp wl_shm@4.create_pool(new @7, fd %30, 128)\n",
+        ],
+        status: Status::Done,
+        wanted: &[
+            "application sent 4 received 0",
+            "got compositor wl_shm@4.create_pool(new @6, fd %1, 64)",
+            "got compositor wl_shm@4.create_pool(new @7, fd %2, 128)",
+            "drained",
+        ],
+    },
+    Row {
+        name: "mirrors of both peers",
+        words: "replay --long",
+        input: &[
+            "app file 5 64\napp file 6 192\ncomp file -7 64\ncomp fill -7 0 8 7\ncomp file -8 64\ncomp fill -8 0 8 257\ncomp file -9 64\n",
+            REGISTRY,
+            "app wl_registry@2.bind(1, \"wl_shm\" 1 new @3)\napp wl_registry@2.bind(2, \"wl_seat\" 7 new @4)\napp wl_seat@4.get_keyboard(new @5)\napp wl_shm@3.create_pool(new @6, fd %5, 60)\napp wl_shm@3.create_pool(new @7, fd %6, 130)\nsettle\n",
+            "comp wl_keyboard@5.keymap(1, fd %-7, 60)\ncomp wl_keyboard@5.keymap(1, fd %-8, 1)\ncomp wl_keyboard@5.keymap(0, fd %-9, 0)\n",
+        ],
+        status: Status::Done,
+        wanted: &[
+            "application sent 6 received 3",
+            "mirror 1 size 60 sum 0",
+            "mirror 2 size 130 sum 0",
+            "mirror -1 size 60 sum 56",
+            "mirror -2 size 1 sum 1",
+            "mirror -3 size 0 sum 0",
+            "drained",
+        ],
+    },
+    Row {
+        name: "pipes that are shut, open, and shut behind their end",
+        words: "replay --long",
+        input: &[
+            REGISTRY,
+            OFFER,
+            "app pipe 9\napp wl_data_offer@4278190080.receive(\"text/plain\", fd %9)\napp pipe 8\napp wl_data_offer@4278190080.receive(\"text/plain\", fd %8)\napp pipe 7\napp wl_data_offer@4278190080.receive(\"text/plain\", fd %7)\nsettle\n",
+            "comp put 1 0102\nsettle\napp shut 9\ncomp put 1 04\nsettle\ncomp put 2 ff\nsettle\n",
+            "comp put 3 0a\ncomp end 3\nsettle\napp shut 7\n",
+        ],
+        status: Status::Done,
+        wanted: &[
+            "application sent 7 received 2",
+            "pipe 1 bytes 2 sum 3 shut",
+            "pipe 2 bytes 1 sum 255 open",
+            "pipe 3 bytes 1 sum 10 ended",
+            "drained",
+        ],
+    },
+    Row {
+        name: "pipe of the compositor",
+        words: "replay --long",
+        input: &[
+            REGISTRY,
+            "app wl_registry@2.bind(1, \"wl_data_device_manager\" 3 new @3)\napp wl_data_device_manager@3.create_data_source(new @4)\napp wl_data_source@4.offer(\"text/plain\")\nsettle\n",
+            "comp pipe -5\ncomp wl_data_source@4.send(\"text/plain\", fd %-5)\nsettle\napp put -1 6869\napp end -1\n",
+        ],
+        status: Status::Done,
+        wanted: &[
+            "application sent 4 received 1",
+            "pipe -1 bytes 2 sum 209 ended",
+            "drained",
+        ],
+    },
+    Row {
+        name: "front written, then stopped",
+        words: "replay --long",
+        input: &[ONE, "take app 12\nconnect\nsend up 48\nstop\n"],
+        status: Status::Done,
+        wanted: &[
+            "connections 1",
+            "application sent 1 received 0",
+            "compositor sent 0 received 0",
+            "link 1 up written 32 read 0",
+            "stopped",
+        ],
+    },
+    Row {
+        name: "message in three pieces",
+        words: "replay --long",
+        input: &[
+            "app hex 01\n# comment\n\napp hex 00000000000c\ntake app 1000000000\napp hex 0002000000\n",
+        ],
+        status: Status::Done,
+        wanted: &[
+            "application sent 1 received 0",
+            "compositor sent 0 received 1",
+            "link 1 up written 48 read 48",
+            "link 1 down written 44 read 44",
+            "drained",
+        ],
+    },
+    Row {
+        name: "nothing to send",
+        words: "replay --long",
+        input: &["up 5\nconnect\nconnect\nbreak\nbreak\n"],
+        status: Status::Done,
+        wanted: &[
+            "connections 1",
+            "far made 0 acknowledged 0 accepted 0",
+            "link 1 up written 0 read 0",
+            "link 1 down written 0 read 0",
+            "drained",
+        ],
+    },
+    Row {
+        name: "closed before it took",
+        words: "replay --long",
+        input: &[ONE, "close app\n"],
+        status: Status::Done,
+        wanted: &[
+            "application sent 0 received 0",
+            "near made 1 acknowledged 1 accepted 0",
+            "far made 0 acknowledged 0 accepted 1",
+            "link 1 up written 40 read 40",
+            "link 1 down written 44 read 44",
+            "drained",
+        ],
+    },
+    Row {
+        name: "both closed",
+        words: "replay --long",
+        input: &[ONE, "close app\nclose app\nclose comp\n"],
+        status: Status::Done,
+        wanted: &[
+            "connections 1",
+            "near made 1 acknowledged 1 accepted 1",
+            "far made 1 acknowledged 1 accepted 1",
+            "link 1 up written 52 read 52",
+            "link 1 down written 52 read 52",
+            "drained",
+        ],
+    },
 ];
 
 #[test]
 fn worked_rows(rt: HostRuntime) -> Result<(), Fail> {
-    for row in ROWS {
-        let script = joined(rt.alloc(), row.script)?;
-        let (_, text) = answered(rt.alloc(), row.command, script.as_slice())?;
-        assert_eq!(rt;
-            first_missing(text.as_slice(), row.wanted),
-            None,
-            "{}",
-            row.name
-        );
+    assert_eq!(rt; first_wrong(rt.alloc(), ROWS)?, None);
+    Ok(())
+}
+
+/// A script that gives a window a title of so many letters.
+fn titled(alloc: Global, letters: u32) -> Result<Vec<u8>, AllocError> {
+    let mut script = Vec::from_slice(
+        alloc,
+        b"app wl_display@1.get_registry(new @2)\napp wl_registry@2.bind(1, \"wl_compositor\" 6 new @3)\napp wl_registry@2.bind(3, \"xdg_wm_base\" 5 new @4)\napp wl_compositor@3.create_surface(new @5)\napp xdg_wm_base@4.get_xdg_surface(new @6, @5)\napp xdg_surface@6.get_toplevel(new @7)\napp xdg_toplevel@7.set_title(\"",
+    )?;
+    for _ in 0..letters {
+        script.push(b'a')?;
     }
+    script.extend_from_slice(b"\")\n")?;
+    Ok(script)
+}
+
+/// The longest title has 65,519 letters; its message has 65,532 bytes and is received.
+#[test]
+fn longest_title(rt: HostRuntime) -> Result<(), Fail> {
+    let script = titled(rt.alloc(), 65_519)?;
+    let (status, text) = answered(rt.alloc(), "replay", script.as_slice())?;
+    assert_eq!(rt; status, Status::Done);
+    let wanted = [
+        "application sent 7 received 0",
+        "compositor sent 0 received 7",
+        "drained",
+    ];
+    assert_eq!(rt; first_missing(text.as_slice(), wanted.as_slice()), None);
+    let script = titled(rt.alloc(), 65_520)?;
+    let (status, text) = answered(rt.alloc(), "replay", script.as_slice())?;
+    assert_eq!(rt;
+        status,
+        Status::Script {
+            line: 7,
+            cause: ScriptCause::Message
+        }
+    );
+    assert_eq!(rt; text.as_slice(), b"script line 7: Message\n".as_slice());
     Ok(())
 }
