@@ -44,7 +44,9 @@ use Rattle.pair_report.proofs.Accepted.{accepted_is_told}
 use Rattle.proxy_trail.specs.declared.pair.PairRecord.{PairRecord}
 use Rattle.script_replay.specs.Outcome.{Replays, ShownBy}
 use Rattle.waypipe_run.specs.Built.{is_built, first_unbuilt}
-use Rattle.waypipe_run.specs.Headline.{passed_at, ReceivesFirst, HasReceivedAll, Holds, ReplaysHold}
+use Rattle.waypipe_run.specs.Headline.{passed_at, ReceivesFirst, HasReceivedAll, Holds, ReplaysHold, TrialsHold}
+use Rattle.waypipe_run.specs.Reports.{trial_options}
+use Rattle.waypipe_run.proofs.TrialLemmas.{trial_is_built}
 
 -- ---- no line replaces a byte
 
@@ -164,3 +166,6 @@ replays_hold options steps answer ln text built reported =
       kept = runs_keep.last steps it.played it.last it.end it.runs;
       drained = λ drained. all_received steps ln reported.pair it h drained;
     }
+
+pub trials_hold : TrialsHold
+trials_hold rounds answer ln text it = replays_hold trial_options it.steps answer ln text (trial_is_built rounds it.steps it.script) it.reported

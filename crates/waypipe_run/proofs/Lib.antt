@@ -5,4 +5,5 @@ pub mod MovingLemmas
 pub mod OutcomeLemmas
 pub mod StreamLemmas
 pub mod TopLemmas
+pub mod TrialLemmas
 pub mod WordLemmas

@@ -25,7 +25,7 @@ use Rattle.pair_report.specs.declared.options.ReportOptions.{ReportOptions}
 use Rattle.proxy_trail.specs.declared.pair.PairRecord.{PairRecord}
 use Rattle.script_replay.specs.Outcome.{Replays}
 use Rattle.waypipe_run.specs.Built.{first_unbuilt}
-use Rattle.waypipe_run.specs.Top.{Reported}
+use Rattle.waypipe_run.specs.Top.{Reported, TrialReported}
 use Rattle.waypipe_run.specs.declared.status.Status.{Status}
 
 -- the messages that a side passed, in order: those that it took from its peer, and those of the
@@ -74,3 +74,10 @@ ReplaysHold =
     → first_unbuilt steps ≡ None
     → (it : Reported options steps answer line text)
     → Holds steps line it.pair it.replays
+
+-- Of a trial, whose lines all are.
+abbrev pub TrialsHold : Type 0
+TrialsHold =
+    (rounds : ℕ) (answer : Status) (line : ℕ → Line) (text : List ℕ)
+    → (it : TrialReported rounds answer line text)
+    → Holds it.steps line it.reported.pair it.reported.replays

@@ -1,5 +1,5 @@
 //! Laws of the program's call: each function does nothing, and its clauses are the laws.
-ghost use Rattle.waypipe_run.specs.Headline.{ReplaysHold};
+ghost use Rattle.waypipe_run.specs.Headline.{ReplaysHold, TrialsHold};
 ghost use Rattle.waypipe_run.specs.TopLaws.{OtherWords, OneIsDue, StatusOfInput, StatusOfStream};
 ghost use Rattle.waypipe_run.specs.TopLaws.{StatusOfTrial};
 
@@ -13,9 +13,10 @@ pub fn status_is_decided()
     ensures trial { StatusOfTrial }
 {}
 
-/// What holds of each replay that is reported: what both peers have received, in which orders
-/// messages passed, that the records of both sides are lawful, and that all was received where
-/// nothing moved any more.
+/// What holds of each replay that is reported, a trial's too: what both peers have received, in
+/// which orders messages passed, that the records of both sides are lawful, and that all was
+/// received where nothing moved any more.
 pub fn replays_hold()
-    ensures { ReplaysHold }
+    ensures replays { ReplaysHold }
+    ensures trials { TrialsHold }
 {}

@@ -269,7 +269,7 @@ const ROWS: &[Row] = &[
             "mirror 1 size 60 sum 0",
             "mirror 2 size 130 sum 0",
             "mirror -1 size 60 sum 56",
-            "mirror -2 size 1 sum 1",
+            "mirror -2 size 1 sum 16",
             "mirror -3 size 0 sum 0",
             "drained",
         ],
