@@ -104,33 +104,73 @@ found test (it ∷ rows) all = go (found test rows all.1) (test it.0) refl
 peers_build : (peer : Side) (test : List ℕ → Bool) → FoundBuild test (peer_rows peer)
 peers_build peer test = (
   λ e. one_builds bytes (step.Hex peer) (λ a. refl),
-  (λ e. two_builds received bytes (step.Put peer) (λ a b. refl),
-  (λ e. two_builds (own peer) size (step.File peer) (λ a b. refl),
-  (λ e. two_builds (own peer) size (step.Grow peer) (λ a b. refl),
-  (λ e. four_builds (own peer) place count word (step.Fill peer) (λ a b c d. refl),
-  (λ e. one_builds (own peer) (step.Pipe peer) (λ a. refl),
-  (λ e. one_builds (own peer) (step.Give peer) (λ a. refl),
-  (λ e. one_builds received (step.End peer) (λ a. refl),
-  (λ e. one_builds (own peer) (step.Shut peer) (λ a. refl),
-  (λ e. one_builds (number 0 1000000) (step.Await peer) (λ a. refl), tt)))))))))
+  (
+    λ e. two_builds received bytes (step.Put peer) (λ a b. refl),
+    (
+      λ e. two_builds (own peer) size (step.File peer) (λ a b. refl),
+      (
+        λ e. two_builds (own peer) size (step.Grow peer) (λ a b. refl),
+        (
+          λ e. four_builds (own peer) place count word (step.Fill peer) (λ a b c d. refl),
+          (
+            λ e. one_builds (own peer) (step.Pipe peer) (λ a. refl),
+            (
+              λ e. one_builds (own peer) (step.Give peer) (λ a. refl),
+              (
+                λ e. one_builds received (step.End peer) (λ a. refl),
+                (
+                  λ e. one_builds (own peer) (step.Shut peer) (λ a. refl),
+                  (λ e. one_builds (number 0 1000000) (step.Await peer) (λ a. refl), tt),
+                ),
+              ),
+            ),
+          ),
+        ),
+      ),
+    ),
+  ),
 )
 
 others_build : (test : List ℕ → Bool) → (test (codes "spoil") ≡ true → ⊥) → FoundBuild test other_rows
 others_build test never = (
   λ e. two_builds who count step.Take (λ a b. refl),
-  (λ e. one_builds count step.Load (λ a. refl),
-  (λ e. one_builds who step.Close (λ a. refl),
-  (λ e. none_builds step.Settle refl,
-  (λ e. one_builds count step.Drain (λ a. refl),
-  (λ e. none_builds step.Stop refl,
-  (λ e. none_builds step.Connect refl,
-  (λ e. none_builds step.Break refl,
-  (λ e. two_builds direction count step.Send (λ a b. refl),
-  (λ e. two_builds direction count step.Recv (λ a b. refl),
-  (λ e. one_builds count (step.Both Up) (λ a. refl),
-  (λ e. one_builds count (step.Both Down) (λ a. refl),
-  (λ e. absurd (never e),
-  (λ e. two_builds direction place step.Cut (λ a b. refl), tt)))))))))))))
+  (
+    λ e. one_builds count step.Load (λ a. refl),
+    (
+      λ e. one_builds who step.Close (λ a. refl),
+      (
+        λ e. none_builds step.Settle refl,
+        (
+          λ e. one_builds count step.Drain (λ a. refl),
+          (
+            λ e. none_builds step.Stop refl,
+            (
+              λ e. none_builds step.Connect refl,
+              (
+                λ e. none_builds step.Break refl,
+                (
+                  λ e. two_builds direction count step.Send (λ a b. refl),
+                  (
+                    λ e. two_builds direction count step.Recv (λ a b. refl),
+                    (
+                      λ e. one_builds count (step.Both Up) (λ a. refl),
+                      (
+                        λ e. one_builds count (step.Both Down) (λ a. refl),
+                        (
+                          λ e. absurd (never e),
+                          (λ e. two_builds direction place step.Cut (λ a b. refl), tt),
+                        ),
+                      ),
+                    ),
+                  ),
+                ),
+              ),
+            ),
+          ),
+        ),
+      ),
+    ),
+  ),
 )
 
 said_builds : (peer : Side) (it : Option TextMessage) → Builds (said peer it)

@@ -150,6 +150,26 @@ const ROWS: &[Row] = &[
         ],
     },
     Row {
+        name: "frame before the refused one in a piece",
+        words: "replay",
+        input: &[
+            "app wl_display@1.get_registry(new @2)\nsettle\napp wl_display@1.sync(new @3)\napp wl_registry@2.bind(1, \"wl_shm\" 1 new @4)\ncomp wl_display@1.delete_id(2)\n",
+        ],
+        status: Status::Frame {
+            reader: Reader::Far,
+            connection: 1,
+            place: 64,
+            cause: FrameCause::PeerMessage(ObjectFault::UnknownObject),
+        },
+        wanted: &[
+            "application sent 3 received 0",
+            "compositor sent 1 received 2",
+            "got compositor 0100000001000c0002000000",
+            "got compositor 0100000000000c0003000000",
+            "frame far connection 1 place 64: PeerMessage UnknownObject",
+        ],
+    },
+    Row {
         name: "id deleted before it was heard of",
         words: "replay",
         input: &[

@@ -294,17 +294,18 @@ const ROWS: &[Row] = &[
         ],
     },
     Row {
-        name: "pipe of the compositor",
+        name: "pipes of the compositor",
         words: "replay --long",
         input: &[
             REGISTRY,
             "app wl_registry@2.bind(1, \"wl_data_device_manager\" 3 new @3)\napp wl_data_device_manager@3.create_data_source(new @4)\napp wl_data_source@4.offer(\"text/plain\")\nsettle\n",
-            "comp pipe -5\ncomp wl_data_source@4.send(\"text/plain\", fd %-5)\nsettle\napp put -1 6869\napp end -1\n",
+            "comp pipe -5\ncomp wl_data_source@4.send(\"text/plain\", fd %-5)\ncomp pipe -4\ncomp wl_data_source@4.send(\"text/plain\", fd %-4)\nsettle\napp put -1 6869\napp end -1\n",
         ],
         status: Status::Done,
         wanted: &[
-            "application sent 4 received 1",
+            "application sent 4 received 2",
             "pipe -1 bytes 2 sum 209 ended",
+            "pipe -2 bytes 0 sum 0 open",
             "drained",
         ],
     },
