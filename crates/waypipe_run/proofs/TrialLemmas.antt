@@ -254,8 +254,8 @@ record Calm (bytes : List ℕ) : Type 0 where
   other : calm false bytes ≡ true
 
 calm_by : (bytes : List ℕ) → Calm bytes → (o : Bool) → calm o bytes ≡ true
-calm_by bytes is true = is.o
-calm_by bytes is false = is.other
+calm_by text is true = is.o
+calm_by text is false = is.other
 
 calm_then : (o : Bool) (xs ys : List ℕ) → calm o xs ≡ true → Calm ys → calm o (xs ++ ys) ≡ true
 calm_then o [] ys is next = calm_by ys next o
