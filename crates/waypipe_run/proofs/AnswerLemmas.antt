@@ -1,5 +1,5 @@
 -- What is answered to the bytes of the input, read whole, is what the program's call owes.
-use Rattle.std.proofs.Common.{◌≡◌, ℕ, List, Option, None, Result, Ok, Err, ◌⊎◌, inl, inr, ⊎_elim, refl, String}
+use Rattle.std.proofs.Common.{◌≡◌, ℕ, List, None, Result, Ok, Err, ◌⊎◌, inl, inr, ⊎_elim, refl, String}
 use Rattle.std.proofs.lemmas.Result.{on_err_weaker}
 use Rattle.std.specs.Result.{IfOk, OnErr}
 use Rattle.std.specs.declared.alloc.AllocError.{AllocError}
@@ -9,7 +9,7 @@ use Rattle.script_lang.specs.declared.steps.Step.{Step}
 use Rattle.wp_outside.specs.Lines.{Line, Same}
 use Rattle.waypipe_run.specs.Built.{first_unbuilt}
 use Rattle.waypipe_run.specs.Parts.{RepliesToBytes, IsRun}
-use Rattle.waypipe_run.specs.Top.{Outside, ReadWhole, MayReplay, MayTry, IsScript, Replies}
+use Rattle.waypipe_run.specs.Top.{Outside, ReadWhole, MayReplay, IsScript, Replies}
 use Rattle.waypipe_run.specs.Words.{AsksInput}
 use Rattle.waypipe_run.specs.declared.replies.Reply.{Reply}
 use Rattle.waypipe_run.specs.declared.status.Status.{Status}

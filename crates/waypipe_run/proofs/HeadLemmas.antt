@@ -17,7 +17,6 @@ use Rattle.half_model.specs.Story.{accepted_in, messages_in}
 use Rattle.side_model.specs.Records.{Law}
 use Rattle.side_model.specs.Trails.{TrailState}
 use Rattle.side_model.specs.declared.fault.ProxyFault.{ProxyFault}
-use Rattle.pair_laws.specs.Pairs.{OneSide, IsPair}
 use Rattle.pair_laws.specs.Passing.{passing, passing_by}
 use Rattle.pair_laws.proofs.Passing.{order_has_both}
 use Rattle.pair_runs.specs.Agreeing.{IsSparing, SparesAll}
@@ -27,9 +26,8 @@ use Rattle.pair_runs.specs.Kept.{one_side}
 use Rattle.pair_runs.specs.Orders.{Allowed}
 use Rattle.pair_runs.specs.Quiet.{IsDone}
 use Rattle.pair_runs.specs.RunLaws.{fault_by}
-use Rattle.pair_runs.specs.Runs.{Played, AreLines, End, Drained, Runs}
-use Rattle.pair_runs.specs.Sides.{SideState, TOKEN, side_seen}
-use Rattle.pair_runs.specs.States.{State, Fault}
+use Rattle.pair_runs.specs.Runs.{Played, AreLines, Drained, Runs}
+use Rattle.pair_runs.specs.Sides.{SideState, TOKEN}
 use Rattle.pair_runs.proofs.Completing.{drained_brings_all}
 use Rattle.pair_runs.proofs.Allowing.{runs_are_allowed}
 use Rattle.pair_runs.proofs.Ends.{front_then}
@@ -38,13 +36,12 @@ use Rattle.pair_runs.proofs.Ordering.{has_orders}
 use Rattle.pair_runs.proofs.Receiving.{runs_take_first}
 use Rattle.pair_runs.proofs.Stopping.{drains_without_stop}
 use Rattle.pair_report.specs.Heard.{accepted_of}
-use Rattle.pair_report.specs.Report.{SideTold, PairTold, meant_at, told_of}
-use Rattle.pair_report.specs.declared.options.ReportOptions.{ReportOptions}
+use Rattle.pair_report.specs.Report.{told_of}
 use Rattle.pair_report.proofs.Accepted.{accepted_is_told}
 use Rattle.proxy_trail.specs.declared.pair.PairRecord.{PairRecord}
 use Rattle.script_replay.specs.Outcome.{Replays, ShownBy}
 use Rattle.waypipe_run.specs.Built.{is_built, first_unbuilt}
-use Rattle.waypipe_run.specs.Headline.{passed_at, ReceivesFirst, HasReceivedAll, Holds, ReplaysHold, TrialsHold}
+use Rattle.waypipe_run.specs.Headline.{passed_at, ReceivesFirst, HasReceivedAll, ReplaysHold, TrialsHold}
 use Rattle.waypipe_run.specs.Reports.{trial_options}
 use Rattle.waypipe_run.proofs.TrialLemmas.{trial_is_built}
 

@@ -1,5 +1,5 @@
 -- What is replied, once it is written, is what the program's call owes: a reply's status is neither want of memory nor a write that failed.
-use Rattle.std.proofs.Common.{◌≡◌, ℕ, List, Bool, true, false, Option, ⊎_elim, refl, ap, ◌∙◌, String}
+use Rattle.std.proofs.Common.{◌≡◌, ℕ, List, Bool, true, false, ⊎_elim, refl, ap, ◌∙◌, String}
 use Rattle.std.specs.declared.alloc.Global.{Global}
 use Rattle.wp_outside.specs.Counts.{Rose}
 use Rattle.wp_outside.specs.Lines.{Line}
@@ -13,8 +13,8 @@ use Rattle.script_lang.specs.declared.steps.Step.{Step}
 use Rattle.wp_outside.specs.declared.kinds.Side.{Side}
 use Rattle.waypipe_run.specs.Moving.{WroteFront}
 use Rattle.waypipe_run.specs.Reports.{options_of, trial_options}
-use Rattle.waypipe_run.specs.Endings.{EndsReport, status_by, status_of}
-use Rattle.waypipe_run.specs.Top.{Outside, Output, Outcome, Printed, PartlyPrinted, Replies, RepliesToStream, RepliesToText, Reported}
+use Rattle.waypipe_run.specs.Endings.{status_by, status_of}
+use Rattle.waypipe_run.specs.Top.{Outside, Output, Outcome, Printed, Replies, RepliesToStream, RepliesToText, Reported}
 use Rattle.waypipe_run.specs.declared.status.Status.{Status}
 use Rattle.waypipe_run.specs.declared.status.Status.TheVariants as status
 use Rattle.waypipe_run.proofs.ReplyLemmas.{each_reply}

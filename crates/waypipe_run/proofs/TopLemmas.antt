@@ -1,11 +1,10 @@
 -- The status follows from what the program's call owes.
-use Rattle.std.proofs.Common.{◌≡◌, ℕ, ◌<◌, ◌≤◌, Bool, true, false, cond, ltb, List, [], ◌∷◌, ◌++◌, Option, Some, None, Result, Ok, Err, ◌⊎◌, inl, inr, ⊎_elim, length, refl, ap, ◌∙◌, sym, subst, arith, rules, tests, String, string_bytes, codes, slice_index, nat_eq}
+use Rattle.std.proofs.Common.{◌≡◌, ℕ, ◌<◌, ◌≤◌, Bool, true, false, cond, ltb, List, [], ◌∷◌, ◌++◌, Option, Some, None, Result, Ok, Err, inl, inr, ⊎_elim, length, refl, ap, ◌∙◌, sym, subst, arith, rules, tests, String, string_bytes, codes, slice_index, nat_eq}
 use Rattle.std.specs.List.{flat_map}
 use Rattle.std.specs.declared.alloc.Global.{Global}
 use Rattle.transfer_frames.specs.Grammar.{spelling}
 use Rattle.transfer_frames.specs.Front.{front}
 use Rattle.transfer_frames.specs.declared.frame.Frame.{Frame}
-use Rattle.transfer_frames.specs.declared.cause.FrameCause.{FrameCause}
 use Rattle.frame_stream.specs.Listing.{Lists}
 use Rattle.frame_stream.proofs.ListingLaws.{listed_once}
 use Rattle.std.proofs.lemmas.Fmt.{decimal_injective}
@@ -15,24 +14,21 @@ use Rattle.script_lang.specs.declared.causes.ScriptCause.{ScriptCause}
 use Rattle.script_lang.specs.declared.causes.ScriptRead.{ScriptRead}
 use Rattle.script_lang.specs.declared.causes.ScriptRead.TheVariants as read
 use Rattle.script_lang.specs.declared.steps.Step.{Step}
-use Rattle.wp_outside.specs.Counts.{Rose}
 use Rattle.wp_outside.specs.Lines.{Line}
 use Rattle.wp_outside.specs.Pieces.{IfTold}
 use Rattle.waypipe_run.specs.Built.{first_unbuilt}
 use Rattle.waypipe_run.specs.Moving.{Took, MOST_INPUT}
 use Rattle.pair_report.specs.declared.options.ReportOptions.{ReportOptions}
 use Rattle.script_lang.specs.Trial.{trial_text}
-use Rattle.script_replay.specs.Playing.{kept_end}
 use Rattle.waypipe_run.specs.Endings.{status_of}
 use Rattle.waypipe_run.specs.Reports.{options_of, trial_options}
-use Rattle.waypipe_run.specs.Top.{Outside, Output, IsAnswer, IsLimit, IsListed, IsReadFault, IsReplayed, IsTried, IsUsage, Outcome, Printed, Refused, Replies, RepliesToStream, RepliesToText, Reported, IsScript}
-use Rattle.waypipe_run.specs.TopLaws.{Due, DueOfBuilt, DueOfRead, RunsTo, OneIsDue, status_of_front, status_of_stream, Hindered, ReadFailed, OtherWords, StatusOfInput, StatusOfStream, StatusOfTrial}
+use Rattle.waypipe_run.specs.Top.{Outside, IsAnswer, IsLimit, IsListed, Refused, RepliesToStream, RepliesToText, Reported}
+use Rattle.waypipe_run.specs.TopLaws.{Due, DueOfBuilt, DueOfRead, RunsTo, OneIsDue, status_of_front, status_of_stream, OtherWords, StatusOfInput, StatusOfStream, StatusOfTrial}
 use Rattle.waypipe_run.specs.Words.{AreWords, AsksInput, IsReplay, IsTrial, IsFrames, IsCommand}
 use Rattle.waypipe_run.proofs.ReplyLemmas.{each_reply, by_outcome}
 use Rattle.waypipe_run.specs.declared.words.Command.TheVariants as command
 use Rattle.waypipe_run.specs.declared.words.Task.{Task}
 use Rattle.waypipe_run.specs.declared.words.Task.TheVariants.{Replay, Frames}
-use Rattle.half_model.specs.declared.causes.Limit.{Limit}
 use Rattle.half_model.specs.declared.causes.Limit.TheVariants as limits
 use Rattle.waypipe_run.specs.declared.status.Status.{Status}
 use Rattle.waypipe_run.specs.declared.status.Status.TheVariants as status

@@ -1,7 +1,7 @@
 -- A trial's script has no line that is not run.
 --
 -- A line that replaces a byte begins with the word `spoil`, all others make steps that are run. No text of a trial has an `i` behind an `o`, and so no line of it begins with that word.
-use Rattle.std.proofs.Common.{◌≡◌, ℕ, zero, suc, ◌+◌, ◌*◌, ◌/◌, ◌%◌, ◌^◌, ◌<◌, ◌≤◌, Bool, true, false, not, ◌&&◌, cond, ◌==◌, List, [], ◌∷◌, ◌++◌, codes, decimal, Option, Some, None, Result, Ok, Err, refl, sym, ap, ◌∙◌, subst, arith}
+use Rattle.std.proofs.Common.{◌≡◌, ℕ, zero, suc, ◌+◌, ◌/◌, ◌^◌, ◌<◌, Bool, true, false, not, ◌&&◌, cond, ◌==◌, List, [], ◌∷◌, ◌++◌, codes, decimal, Option, Some, None, Result, Ok, Err, refl, sym, ap, ◌∙◌, subst, arith}
 use Rattle.std.proofs.lemmas.Bool.{and_parts}
 use Rattle.std.proofs.lemmas.Bool.Decides.{nat_tests}
 use Rattle.std.proofs.lemmas.Slice.Eq.{bytes_eq-Decides}
@@ -18,7 +18,7 @@ use Rattle.wp_outside.specs.declared.kinds.Direction.TheVariants.{Up, Down}
 use Rattle.wp_outside.specs.declared.kinds.Side.{Side}
 use Rattle.wp_outside.specs.declared.kinds.Side.TheVariants.{Near, Far}
 use Rattle.script_lang.specs.Fields.{four_of}
-use Rattle.script_lang.specs.Grammar.{steps_of, steps_of_lines, steps_from, and_then, onto_steps, line_of, named, names_after, unless_fault}
+use Rattle.script_lang.specs.Grammar.{steps_of, steps_from, and_then, onto_steps, line_of, named, names_after, unless_fault}
 use Rattle.script_lang.specs.Kinds.{Kind, bytes, byte, received, own, size, place, count, word, number, who, direction}
 use Rattle.script_lang.specs.Lines.{asked, asked_by, is_skipped, message_line, other_line, peer_line, said, told}
 use Rattle.script_lang.specs.Names.{Names, no_names, naming, fault_by}

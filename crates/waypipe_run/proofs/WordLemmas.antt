@@ -1,10 +1,10 @@
 -- That words which are none of the commands that were tried are no command.
-use Rattle.std.proofs.Common.{◌≡◌, ℕ, ◌≤◌, List, [], ◌∷◌, Bool, true, false, Option, Some, None, Result, Ok, Err, ⊎_elim, refl, sym, subst, ◌∙◌, arith, String, codes, MatchOption}
+use Rattle.std.proofs.Common.{◌≡◌, ℕ, List, true, false, Option, Some, None, Result, Ok, Err, sym, subst, ◌∙◌, arith, String, MatchOption}
 use Rattle.std.specs.Bool.{IsTrue}
 use Rattle.std.proofs.lemmas.Fmt.{parse-decimal}
 use Rattle.std.specs.Str.Parse.{ParsesUnsigned}
 use Rattle.std.specs.declared.alloc.Global.{Global}
-use Rattle.waypipe_run.specs.Words.{Asks, AreWords, IsReplay, IsTrial, IsFrames, IsCount, IsCommand}
+use Rattle.waypipe_run.specs.Words.{Asks, IsReplay, IsTrial, IsFrames, IsCount, IsCommand}
 use Rattle.waypipe_run.specs.declared.words.Command.{Command}
 use Rattle.waypipe_run.specs.declared.words.Command.TheVariants.{Input, Trial}
 use Rattle.waypipe_run.specs.declared.words.Task.TheVariants.{Replay, Frames}

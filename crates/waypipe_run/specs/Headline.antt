@@ -1,7 +1,7 @@
 -- What holds of each replay that is reported: what both peers have received, in which orders, and
 -- what is left where it drained. Messages are those of the Wayland protocol; proxies, records and
 -- scripts are this project's own.
-use Rattle.std.specs.Prelude.{◌≡◌, ℕ, true, List, Option, None}
+use Rattle.std.specs.Prelude.{◌≡◌, ℕ, List, None}
 use Rattle.plain_lists.specs.Fronts.{IsFront}
 use Rattle.wl_objects.specs.Registry.{first_state, visible}
 use Rattle.wl_tables.specs.declared.way.Way.{Way}
@@ -11,7 +11,6 @@ use Rattle.wp_outside.specs.declared.kinds.Side.{Side}
 use Rattle.wp_outside.specs.declared.kinds.Side.TheVariants.{Near, Far}
 use Rattle.script_lang.specs.Puts.{puts, before_stop}
 use Rattle.script_lang.specs.declared.steps.Step.{Step}
-use Rattle.pair_model.specs.Lines.{Agrees}
 use Rattle.pair_laws.specs.Passing.{passing}
 use Rattle.pair_runs.specs.Completing.{NeverAsked}
 use Rattle.pair_runs.specs.Headline.{Receives}
