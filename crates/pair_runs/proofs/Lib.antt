@@ -23,3 +23,5 @@ pub mod Passings
 pub mod Ordering
 pub mod Allowing
 pub mod Stopping
+pub mod Staying
+pub mod Completing

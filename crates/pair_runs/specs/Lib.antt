@@ -16,3 +16,4 @@ pub mod WrongRuns
 pub mod Agreeing
 pub mod Headline
 pub mod Orders
+pub mod Completing

@@ -1,6 +1,7 @@
 //! The laws of runs: functions that do nothing, and whose contract is the law.
 
 ghost use Rattle.pair_runs.specs.Agreeing.{MovesTie, RunsAgree};
+ghost use Rattle.pair_runs.specs.Completing.{DrainedBringsAll};
 ghost use Rattle.pair_runs.specs.Headline.{RunsTakeFirst, RunsReceive};
 ghost use Rattle.pair_runs.specs.Measure.{RoundFalls};
 ghost use Rattle.pair_runs.specs.MoreLaws.{WorksMore, ReadsMore, WritesMore, BeginsFirst};
@@ -101,6 +102,12 @@ pub fn runs_agree()
 pub fn runs_receive()
     ensures take { RunsTakeFirst }
     ensures receive { RunsReceive }
+{}
+
+/// A run that ends where nothing moved any more has brought all that the peers put, while no byte of
+/// the line is replaced and no side was asked to close.
+pub fn drained_brings_all()
+    ensures { DrainedBringsAll }
 {}
 
 /// While no byte of the line is replaced the orders in which both sides passed messages are allowed

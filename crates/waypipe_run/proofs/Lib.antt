@@ -1,8 +1,9 @@
 pub mod AnswerLemmas
-pub mod LinkLemmas
+pub mod HeadLemmas
+pub mod ReplyLemmas
 pub mod MovingLemmas
 pub mod OutcomeLemmas
-pub mod PrintLemmas
-pub mod ReportLemmas
 pub mod StreamLemmas
 pub mod TopLemmas
+pub mod TrialLemmas
+pub mod WordLemmas

@@ -1,34 +1,49 @@
 -- What is replied, once it is written, is what the program's call owes: a reply's status is neither want of memory nor a write that failed.
-use Rattle.std.proofs.Common.{◌≡◌, ℕ, List, Bool, true, false, Option, ⊎_elim, refl, ap, ◌∙◌, String}
+use Rattle.std.proofs.Common.{◌≡◌, ℕ, List, Bool, true, false, ⊎_elim, refl, ap, ◌∙◌, String}
 use Rattle.std.specs.declared.alloc.Global.{Global}
 use Rattle.wp_outside.specs.Counts.{Rose}
 use Rattle.wp_outside.specs.Lines.{Line}
 use Rattle.wp_outside.specs.Pieces.{held_with}
-use Rattle.replay_model.specs.Halves.{Pair}
-use Rattle.replay_model.specs.declared.ends.End.{End}
-use Rattle.replay_model.specs.declared.ends.End.TheVariants as ends
-use Rattle.replay_model.specs.declared.ends.Fault.TheVariants as faults
+use Rattle.proxy_trail.specs.declared.pair.PairEnd.{PairEnd}
+use Rattle.proxy_trail.specs.declared.pair.PairEnd.TheVariants as ends
+use Rattle.side_model.specs.declared.fault.ProxyFault.{ProxyFault}
+use Rattle.side_model.specs.declared.fault.ProxyFault.TheVariants as faults
+use Rattle.pair_report.specs.declared.options.ReportOptions.{ReportOptions}
+use Rattle.script_lang.specs.declared.steps.Step.{Step}
+use Rattle.wp_outside.specs.declared.kinds.Side.{Side}
 use Rattle.waypipe_run.specs.Moving.{WroteFront}
-use Rattle.waypipe_run.specs.Outcomes.{status_of}
-use Rattle.waypipe_run.specs.Top.{Outside, Output, Outcome, Printed, PartlyPrinted, Replies, RepliesToStream, RepliesToText}
+use Rattle.waypipe_run.specs.Reports.{options_of, trial_options}
+use Rattle.waypipe_run.specs.Endings.{status_by, status_of}
+use Rattle.waypipe_run.specs.Top.{Outside, Output, Outcome, Printed, Replies, RepliesToStream, RepliesToText, Reported}
 use Rattle.waypipe_run.specs.declared.status.Status.{Status}
 use Rattle.waypipe_run.specs.declared.status.Status.TheVariants as status
-use Rattle.waypipe_run.proofs.TopLemmas.{each_reply}
+use Rattle.waypipe_run.proofs.ReplyLemmas.{each_reply}
 
 abbrev is_reply : Status → Bool
 is_reply status.Memory = false
 is_reply status.WriteFault = false
 is_reply _ = true
 
-run_is_reply : (pair : Pair) (end : End) → is_reply (status_of pair end) ≡ true
-run_is_reply pair ends.Drained = refl
-run_is_reply pair ends.Stopped = refl
-run_is_reply pair (ends.Fault (faults.Peer side cause)) = refl
-run_is_reply pair (ends.Fault (faults.Frame side cause)) = refl
+fault_is_reply : (side : Side) (fault : ProxyFault) → (status_by side fault ≡ status.Memory → ⊥) → is_reply (status_by side fault) ≡ true
+fault_is_reply side (faults.Frame connection place cause) had = refl
+fault_is_reply side (faults.Peer index cause) had = refl
+fault_is_reply side (faults.Limit which) had = refl
+fault_is_reply side faults.Memory had = absurd (had refl)
 
-text_is_reply : (texts : Bool) (answer : Status) (bytes : List ℕ) (before after : ℕ → Line) (text : List ℕ) → RepliesToText texts answer bytes before after text → is_reply answer ≡ true
-text_is_reply texts answer bytes before after text replies = ⊎_elim
-    (λ replayed. ap is_reply replayed.reported.answered ∙ run_is_reply replayed.reported.pair replayed.reported.end)
+end_is_reply : (end : PairEnd) → (status_of end ≡ status.Memory → ⊥) → is_reply (status_of end) ≡ true
+end_is_reply ends.Drained had = refl
+end_is_reply ends.Stopped had = refl
+end_is_reply ends.Closed had = refl
+end_is_reply ends.LinkFault had = refl
+end_is_reply (ends.Fault side fault) had = fault_is_reply side fault had
+
+report_is_reply : (options : ReportOptions) (steps : List Step) (answer : Status) (line : ℕ → Line) (text : List ℕ) → Reported options steps answer line text → is_reply answer ≡ true
+report_is_reply options steps answer line text is =
+    ap is_reply is.ends.answered ∙ end_is_reply is.pair.end (λ e. is.ends.had_memory (is.ends.answered ∙ e))
+
+text_is_reply : (options : ReportOptions) (answer : Status) (bytes : List ℕ) (before after : ℕ → Line) (text : List ℕ) → RepliesToText options answer bytes before after text → is_reply answer ≡ true
+text_is_reply options answer bytes before after text replies = ⊎_elim
+    (λ replayed. report_is_reply options replayed.steps answer after text replayed.reported)
     (λ others. ⊎_elim (λ none. ap is_reply none.answered) (λ long. ap is_reply long.answered) others)
     replies
 
@@ -40,8 +55,9 @@ reply_is_reply answer words old new text replies = each_reply answer words old n
     (λ usage. ap is_reply usage.answered)
     (λ fault. ap is_reply fault.answered)
     (λ limit. ap is_reply limit.answered)
-    (λ answered. text_is_reply answered.texts answer answered.bytes old.line new.line text answered.replies)
+    (λ answered. text_is_reply (options_of answered.texts answered.long) answer answered.bytes old.line new.line text answered.replies)
     (λ listed. stream_is_reply answer listed.bytes text listed.replies)
+    (λ tried. report_is_reply trial_options tried.reported.steps answer new.line text tried.reported.reported)
 
 false_true : false ≡ true → ⊥
 false_true e = cc

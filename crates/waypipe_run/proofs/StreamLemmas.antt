@@ -1,5 +1,5 @@
 -- A listing of a stream of frames, with its last line, is what is replied to the stream.
-use Rattle.std.proofs.Common.{◌≡◌, ℕ, List, ◌++◌, length, Result, Ok, Err, inl, inr, ap, ◌∙◌}
+use Rattle.std.proofs.Common.{◌≡◌, ℕ, List, ◌++◌, Result, Ok, Err, inl, inr, ap, ◌∙◌}
 use Rattle.std.specs.Result.{IfOk}
 use Rattle.std.specs.declared.alloc.AllocError.{AllocError}
 use Rattle.transfer_frames.specs.declared.frame.Frame.{Frame}

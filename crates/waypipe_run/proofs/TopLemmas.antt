@@ -1,48 +1,35 @@
 -- The status follows from what the program's call owes.
-use Rattle.std.proofs.Common.{◌≡◌, ℕ, ◌<◌, ◌≤◌, Bool, true, false, cond, ltb, List, [], ◌∷◌, ◌++◌, Option, Some, None, Result, Ok, Err, ◌⊎◌, inl, inr, ⊎_elim, length, refl, ap, ◌∙◌, sym, subst, arith, rules, tests, String, string_bytes, codes, slice_index, nat_eq}
+use Rattle.std.proofs.Common.{◌≡◌, ℕ, ◌<◌, ◌≤◌, Bool, true, false, cond, ltb, List, [], ◌∷◌, ◌++◌, Option, Some, None, Result, Ok, Err, inl, inr, ⊎_elim, length, refl, ap, ◌∙◌, sym, subst, arith, rules, tests, String, string_bytes, codes, slice_index, nat_eq}
 use Rattle.std.specs.List.{flat_map}
 use Rattle.std.specs.declared.alloc.Global.{Global}
 use Rattle.transfer_frames.specs.Grammar.{spelling}
 use Rattle.transfer_frames.specs.Front.{front}
 use Rattle.transfer_frames.specs.declared.frame.Frame.{Frame}
-use Rattle.transfer_frames.specs.declared.cause.FrameCause.{FrameCause}
 use Rattle.frame_stream.specs.Listing.{Lists}
 use Rattle.frame_stream.proofs.ListingLaws.{listed_once}
+use Rattle.std.proofs.lemmas.Fmt.{decimal_injective}
 use Rattle.std.proofs.lemmas.List.{append-nil}
 use Rattle.script_lang.specs.Grammar.{steps_of}
 use Rattle.script_lang.specs.declared.causes.ScriptCause.{ScriptCause}
 use Rattle.script_lang.specs.declared.causes.ScriptRead.{ScriptRead}
 use Rattle.script_lang.specs.declared.causes.ScriptRead.TheVariants as read
 use Rattle.script_lang.specs.declared.steps.Step.{Step}
-use Rattle.replay_model.specs.Halves.{Half, Pair, given_by, heard_way, of_way, taken_by}
-use Rattle.wl_tables.specs.Ways.{own_way}
-use Rattle.wl_tables.specs.declared.way.Way.{Way}
-use Rattle.replay_model.specs.RunLaws.{AllPass}
-use Rattle.replay_model.specs.Rows.{frames_of}
-use Rattle.replay_model.specs.Runs.{Runs}
-use Rattle.replay_model.specs.declared.ends.End.{End}
-use Rattle.replay_model.specs.declared.ends.End.TheVariants as ends
-use Rattle.replay_model.specs.declared.ends.Fault.{Fault}
-use Rattle.replay_model.specs.declared.ends.Fault.TheVariants as faults
-use Rattle.replay_model.proofs.Claims.{no_fault_comes, one_run, stops_at_stop}
-use Rattle.wp_outside.specs.Counts.{Rose}
 use Rattle.wp_outside.specs.Lines.{Line}
 use Rattle.wp_outside.specs.Pieces.{IfTold}
-use Rattle.wp_outside.specs.declared.kinds.Side.{Side}
-use Rattle.wp_outside.specs.declared.kinds.Side.TheVariants.{Near, Far}
 use Rattle.waypipe_run.specs.Built.{first_unbuilt}
 use Rattle.waypipe_run.specs.Moving.{Took, MOST_INPUT}
-use Rattle.waypipe_run.specs.Outcomes.{status_of, reader_of, frame_cause, peer_cause}
-use Rattle.waypipe_run.specs.Top.{Outside, Output, IsAnswer, IsLimit, IsListed, IsReadFault, IsReplayed, IsUsage, Outcome, Printed, Refused, Replies, RepliesToStream, RepliesToText, Reported, IsScript}
-use Rattle.waypipe_run.specs.TopLaws.{Due, DueOfBuilt, DueOfRead, RunsTo, OneIsDue, status_of_front, status_of_stream, Hindered, ReadFailed, OtherWords, StatusOfInput, StatusOfStream, GoesThrough, DrainsUnlessStopped}
-use Rattle.waypipe_run.specs.Words.{Asks, IsReplay, IsFrames, IsCommand}
-use Rattle.waypipe_run.specs.declared.words.Command.{Command}
-use Rattle.waypipe_run.specs.declared.words.Command.TheVariants.{Replay, Frames}
-use Rattle.half_model.specs.declared.causes.Limit.{Limit}
+use Rattle.pair_report.specs.declared.options.ReportOptions.{ReportOptions}
+use Rattle.script_lang.specs.Trial.{trial_text}
+use Rattle.waypipe_run.specs.Endings.{status_of}
+use Rattle.waypipe_run.specs.Reports.{options_of, trial_options}
+use Rattle.waypipe_run.specs.Top.{Outside, IsAnswer, IsLimit, IsListed, Refused, RepliesToStream, RepliesToText, Reported}
+use Rattle.waypipe_run.specs.TopLaws.{Due, DueOfBuilt, DueOfRead, RunsTo, OneIsDue, status_of_front, status_of_stream, OtherWords, StatusOfInput, StatusOfStream, StatusOfTrial}
+use Rattle.waypipe_run.specs.Words.{AreWords, AsksInput, IsReplay, IsTrial, IsFrames, IsCommand}
+use Rattle.waypipe_run.proofs.ReplyLemmas.{each_reply, by_outcome}
+use Rattle.waypipe_run.specs.declared.words.Command.TheVariants as command
+use Rattle.waypipe_run.specs.declared.words.Task.{Task}
+use Rattle.waypipe_run.specs.declared.words.Task.TheVariants.{Replay, Frames}
 use Rattle.half_model.specs.declared.causes.Limit.TheVariants as limits
-use Rattle.half_model.specs.declared.causes.PeerCause.{PeerCause}
-use Rattle.waypipe_run.specs.declared.status.Reader.{Reader}
-use Rattle.waypipe_run.specs.declared.status.Reader.TheVariants as reader
 use Rattle.waypipe_run.specs.declared.status.Status.{Status}
 use Rattle.waypipe_run.specs.declared.status.Status.TheVariants as status
 
@@ -61,21 +48,58 @@ above bytes many = search (rules, tests)
 true_false : true ≡ false → ⊥
 true_false e = cc
 
+-- the first of the words
+abbrev First : List ℕ → List (String Global) → Type 0
+First text [] = ⊥
+First text (word ∷ words) = string_bytes word ≡ text
+
+first_of : (text : List ℕ) (texts : List (List ℕ)) (words : List (String Global)) → AreWords (text ∷ texts) words → First text words
+first_of text texts [] is = is
+first_of text texts (word ∷ words) is = is.0
+
+replay_first : (texts long : Bool) (words : List (String Global)) → IsReplay texts long words → First (codes "replay") words
+replay_first false false words is = first_of (codes "replay") [] words is
+replay_first true false words is = first_of (codes "replay") (codes "--text" ∷ []) words is
+replay_first false true words is = first_of (codes "replay") (codes "--long" ∷ []) words is
+replay_first true true words is = ⊎_elim
+    (λ one. first_of (codes "replay") (codes "--text" ∷ codes "--long" ∷ []) words one)
+    (λ other. first_of (codes "replay") (codes "--long" ∷ codes "--text" ∷ []) words other)
+    is
+
 -- no words are two commands
-not_both : (text : List ℕ) → text ≡ codes "replay" → text ≡ codes "frames" → ⊥
-not_both text a b = true_false (ap (λ (t : List ℕ). nat_eq (slice_index t 0) 114) (sym a ∙ b))
+replay_frames : (text : List ℕ) → text ≡ codes "replay" → text ≡ codes "frames" → ⊥
+replay_frames text a b = true_false (ap (λ (t : List ℕ). nat_eq (slice_index t 0) 114) (sym a ∙ b))
 
-two_commands : (texts : Bool) (words : List (String Global)) → IsReplay texts words → IsFrames words → ⊥
-two_commands false [] a b = a
-two_commands false (word ∷ []) a b = not_both (string_bytes word) a.0 b.0
-two_commands false (word ∷ other ∷ others) a b = a.1
-two_commands true [] a b = a
-two_commands true (word ∷ []) a b = a.1
-two_commands true (word ∷ other ∷ others) a b = b.1
+replay_trial : (text : List ℕ) → text ≡ codes "replay" → text ≡ codes "trial" → ⊥
+replay_trial text a b = true_false (ap (λ (t : List ℕ). nat_eq (slice_index t 0) 114) (sym a ∙ b))
 
-is_command : (texts : Bool) (words : List (String Global)) → IsReplay texts words → IsCommand words
-is_command false words is = inl is
-is_command true words is = inr (inl is)
+trial_frames : (text : List ℕ) → text ≡ codes "trial" → text ≡ codes "frames" → ⊥
+trial_frames text a b = true_false (ap (λ (t : List ℕ). nat_eq (slice_index t 0) 116) (sym a ∙ b))
+
+both_first : (one other : List ℕ) (words : List (String Global)) → ((text : List ℕ) → text ≡ one → text ≡ other → ⊥) → First one words → First other words → ⊥
+both_first one other [] never a b = a
+both_first one other (word ∷ words) never a b = never (string_bytes word) a b
+
+frames_first : (words : List (String Global)) → IsFrames words → First (codes "frames") words
+frames_first words is = first_of (codes "frames") [] words is
+
+trial_first : (rounds : ℕ) (words : List (String Global)) → IsTrial rounds words → First (codes "trial") words
+trial_first rounds [] is = is
+trial_first rounds (name ∷ []) is = absurd is
+trial_first rounds (name ∷ count ∷ []) is = is.0
+trial_first rounds (name ∷ count ∷ other ∷ words) is = absurd is
+
+two_commands : (texts long : Bool) (words : List (String Global)) → IsReplay texts long words → IsFrames words → ⊥
+two_commands texts long words a b = both_first (codes "replay") (codes "frames") words replay_frames (replay_first texts long words a) (frames_first words b)
+
+replay_and_trial : (texts long : Bool) (rounds : ℕ) (words : List (String Global)) → IsReplay texts long words → IsTrial rounds words → ⊥
+replay_and_trial texts long rounds words a b = both_first (codes "replay") (codes "trial") words replay_trial (replay_first texts long words a) (trial_first rounds words b)
+
+trial_and_frames : (rounds : ℕ) (words : List (String Global)) → IsTrial rounds words → IsFrames words → ⊥
+trial_and_frames rounds words a b = both_first (codes "trial") (codes "frames") words trial_frames (trial_first rounds words a) (frames_first words b)
+
+is_command : (texts long : Bool) (words : List (String Global)) → IsReplay texts long words → IsCommand words
+is_command texts long words is = (command.Input (Replay texts long), is)
 
 -- what was read whole is what was left
 read_left : (left rest : Option (List ℕ)) (bytes all : List ℕ) → left ≡ Some all → Took left rest bytes → IfTold rest (λ r. r ≡ []) → bytes ≡ all
@@ -83,45 +107,21 @@ read_left None rest bytes all is taken none = absurd (none_some all is)
 read_left (Some left) None bytes all is taken none = absurd taken
 read_left (Some left) (Some rest) bytes all is taken none = sym (taken ∙ ap (λ r. bytes ++ r) none ∙ append-nil bytes) ∙ some_same left all is
 
--- ---- by what a status comes
-
--- each kind of reply gives what is asked for
-pub each_reply : {X : Type 0} (answer : Status) (words : List (String Global)) (old new : Outside) (text : List ℕ) → Replies answer words old new text
-    → (IsUsage answer words old new text → X) → (IsReadFault answer words old new text → X) → (IsLimit answer words old new text → X)
-    → (IsAnswer answer words old new text → X) → (IsListed answer words old new text → X) → X
-each_reply answer words old new text replies usage fault limit answered listed =
-    ⊎_elim usage (λ it. ⊎_elim fault (λ it. ⊎_elim limit (λ it. ⊎_elim answered listed it) it) it) replies
-
--- a status is want of memory, or a write failed, or its whole text was written
-by_outcome : {X : Type 0} (answer : Status) (words : List (String Global)) (old new : Outside) (out written : Output) → Outcome answer words old new out written
-    → (Hindered answer out written → X) → (Printed answer words old new out written → X) → X
-by_outcome status.Memory words old new out written is hindered printed = hindered (inl refl)
-by_outcome status.WriteFault words old new out written is hindered printed = hindered (inr (refl, is.rose))
-by_outcome status.Done words old new out written is hindered printed = printed is
-by_outcome status.Usage words old new out written is hindered printed = printed is
-by_outcome status.ReadFault words old new out written is hindered printed = printed is
-by_outcome (status.Script line cause) words old new out written is hindered printed = printed is
-by_outcome (status.Peer side index cause) words old new out written is hindered printed = printed is
-by_outcome (status.Frame reader connection place cause) words old new out written is hindered printed = printed is
-by_outcome (status.Limit which) words old new out written is hindered printed = printed is
-by_outcome status.LinkFault words old new out written is hindered printed = printed is
-by_outcome (status.LinkDiffers connection direction place wrote read) words old new out written is hindered printed = printed is
-
 -- ---- other words
 
-asked : (command : Command) (words : List (String Global)) → Asks command words → IsCommand words
-asked (Replay texts) words asks = is_command texts words asks
-asked Frames words asks = inr (inr asks)
+asked : (task : Task) (words : List (String Global)) → AsksInput task words → IsCommand words
+asked task words asks = (command.Input task, asks)
 
 pub other_words : OtherWords
 other_words answer words old new out written outcome other =
     by_outcome answer words old new out written outcome inr
     (λ printed. inl (each_reply answer words old new printed.text printed.replies
     (λ usage. usage.answered)
-    (λ fault. absurd (other (asked fault.command words fault.asks)))
-    (λ limit. absurd (other (asked limit.command words limit.asks)))
-    (λ answered. absurd (other (is_command answered.texts words answered.asks)))
-    (λ listed. absurd (other (inr (inr listed.asks))))))
+    (λ fault. absurd (other (asked fault.task words fault.asks)))
+    (λ limit. absurd (other (asked limit.task words limit.asks)))
+    (λ answered. absurd (other (is_command answered.texts answered.long words answered.asks)))
+    (λ listed. absurd (other (asked Frames words listed.asks)))
+    (λ tried. absurd (other (command.Trial tried.rounds, tried.asks)))))
 
 -- ---- what an input calls for
 
@@ -132,13 +132,18 @@ due_of_refused bytes line cause is = ⊎_elim
     (subst (λ (it : Option ℕ). DueOfBuilt it unbuilt.0 (status.Script line cause)) (sym unbuilt.2) (ap (λ (c : ScriptCause). status.Script line c) unbuilt.3)))
     is
 
+-- a report is of a run
+runs_to : (options : ReportOptions) (steps : List Step) (answer : Status) (line : ℕ → Line) (text : List ℕ) → Reported options steps answer line text → RunsTo steps answer
+runs_to options steps answer line text is =
+    let r = is.replays in
+    record { played = r.played; last = r.last; end = r.end; runs = r.runs; answered = is.ends.answered ∙ ap status_of r.end_is }
+
 -- an answer to a text is the status that the text calls for
-text_status : (texts : Bool) (answer : Status) (bytes : List ℕ) (before after : ℕ → Line) (text : List ℕ) → RepliesToText texts answer bytes before after text → DueOfRead (steps_of bytes) answer
-text_status texts answer bytes before after text replies = ⊎_elim
+text_status : (options : ReportOptions) (answer : Status) (bytes : List ℕ) (before after : ℕ → Line) (text : List ℕ) → RepliesToText options answer bytes before after text → DueOfRead (steps_of bytes) answer
+text_status options answer bytes before after text replies = ⊎_elim
     (λ replayed.
-    let is = replayed.reported in
     let built : DueOfBuilt (first_unbuilt replayed.steps) replayed.steps answer =
-    subst (λ (it : Option ℕ). DueOfBuilt it replayed.steps answer) (sym replayed.script.built) (record { pair = is.pair; end = is.end; runs = is.ran.runs; answered = is.answered }) in
+    subst (λ (it : Option ℕ). DueOfBuilt it replayed.steps answer) (sym replayed.script.built) (runs_to options replayed.steps answer after text replayed.reported) in
     subst (λ (told : Result (List Step) ScriptRead). DueOfRead told answer) (sym replayed.script.spelled) built)
     (λ others. ⊎_elim
     (λ none. subst (DueOfRead (steps_of bytes)) (sym none.answered) (due_of_refused bytes none.line none.cause none.refused))
@@ -153,17 +158,50 @@ left_above left all told above = subst (λ (o : Option (List ℕ)). IfTold o (λ
 answer_status : (answer : Status) (words : List (String Global)) (old new : Outside) (text all : List ℕ) → IsAnswer answer words old new text → old.left ≡ Some all → Due all answer
 answer_status answer words old new text all is told =
     let same = read_left old.left new.left is.bytes all told is.read.taken is.read.nothing_left in
-    subst (λ (b : List ℕ). Due b answer) same (inr (is.read.bounded, text_status is.texts answer is.bytes old.line new.line text is.replies))
+    subst (λ (b : List ℕ). Due b answer) same (inr (is.read.bounded, text_status (options_of is.texts is.long) answer is.bytes old.line new.line text is.replies))
 
 pub status_decided : StatusOfInput
-status_decided texts answer words old new out written bytes outcome command left =
+status_decided texts long answer words old new out written bytes outcome asks left =
     by_outcome answer words old new out written outcome (λ hindered. inr (inl hindered))
     (λ printed. each_reply answer words old new printed.text printed.replies
-    (λ usage. absurd (usage.no_command (is_command texts words command)))
+    (λ usage. absurd (usage.no_command (is_command texts long words asks)))
     (λ fault. inr (inr (fault.answered, fault.rose)))
     (λ limit. inl (inl (left_above old.left bytes left limit.above, limit.answered)))
     (λ answered. inl (answer_status answer words old new printed.text bytes answered left))
-    (λ listed. absurd (two_commands texts words command listed.asks)))
+    (λ listed. absurd (two_commands texts long words asks listed.asks))
+    (λ tried. absurd (replay_and_trial texts long tried.rounds words asks tried.asks)))
+
+-- ---- what a trial calls for
+
+input_and_trial : (task : Task) (rounds : ℕ) (words : List (String Global)) → AsksInput task words → IsTrial rounds words → ⊥
+input_and_trial (Replay texts long) rounds words a b = replay_and_trial texts long rounds words a b
+input_and_trial Frames rounds words a b = trial_and_frames rounds words b a
+
+-- one command has one count of rounds
+same_rounds : (rounds other : ℕ) (words : List (String Global)) → IsTrial rounds words → IsTrial other words → rounds ≡ other
+same_rounds rounds other [] a b = absurd a
+same_rounds rounds other (name ∷ []) a b = absurd a
+same_rounds rounds other (name ∷ count ∷ []) a b =
+    decimal_injective rounds other (omega (arith, a.1.few)) (omega (arith, b.1.few)) (sym a.1.is ∙ b.1.is)
+same_rounds rounds other (name ∷ count ∷ more ∷ words) a b = absurd a
+
+Tells : Status → ℕ → Type 0
+Tells answer rounds = (steps : List Step) × (steps_of (trial_text rounds) ≡ Ok steps) × RunsTo steps answer
+
+pub trial_decided : StatusOfTrial
+unfolding Tells
+trial_decided rounds answer words old new out written outcome asks =
+    by_outcome answer words old new out written outcome inr
+    (λ printed. each_reply answer words old new printed.text printed.replies
+    (λ usage. absurd (usage.no_command (command.Trial rounds, asks)))
+    (λ fault. absurd (input_and_trial fault.task rounds words fault.asks asks))
+    (λ limit. absurd (input_and_trial limit.task rounds words limit.asks asks))
+    (λ answered. absurd (replay_and_trial answered.texts answered.long rounds words answered.asks asks))
+    (λ listed. absurd (trial_and_frames rounds words asks listed.asks))
+    (λ tried.
+    let it = tried.reported in
+    let own : Tells answer tried.rounds = (it.steps, it.script, runs_to trial_options it.steps answer new.line printed.text it.reported) in
+    inl (subst (Tells answer) (same_rounds tried.rounds rounds words tried.asks asks) own)))
 
 -- ---- what a stream calls for
 
@@ -193,76 +231,33 @@ limit_stream answer words old new text all frames rest is told =
     is.answered ∙ sym (ap (λ b. cond b (status.Limit limits.Input) (status_of_front (front rest) (length (flat_map spelling frames)))) (above all (left_above old.left all told is.above)))
 
 pub stream_decided : StatusOfStream
-stream_decided answer words old new out written bytes frames rest outcome command left lists =
+stream_decided answer words old new out written bytes frames rest outcome asks left lists =
     by_outcome answer words old new out written outcome (λ hindered. inr (inl hindered))
     (λ printed. each_reply answer words old new printed.text printed.replies
-    (λ usage. absurd (usage.no_command (inr (inr command))))
+    (λ usage. absurd (usage.no_command (asked Frames words asks)))
     (λ fault. inr (inr (fault.answered, fault.rose)))
     (λ limit. inl (limit_stream answer words old new printed.text bytes frames rest limit left))
-    (λ answered. absurd (two_commands answered.texts words answered.asks command))
-    (λ listed. inl (listed_status answer words old new printed.text bytes frames rest listed left lists)))
+    (λ answered. absurd (two_commands answered.texts answered.long words answered.asks asks))
+    (λ listed. inl (listed_status answer words old new printed.text bytes frames rest listed left lists))
+    (λ tried. absurd (trial_and_frames tried.rounds words tried.asks asks)))
 
--- ---- the laws
+-- ---- one status
 
--- one input, one status: a script's runs all end alike
-same_peer : (side : Side) (cause : PeerCause) (a b : Half) → a.order ≡ b.order → status.Peer side (length (taken_by side a)) cause ≡ status.Peer side (length (taken_by side b)) cause
-same_peer side cause a b same = ap (λ (o : List (Way × List ℕ)). status.Peer side (length (of_way (own_way side) o)) cause) same
+one_of_built : (line : Option ℕ) (steps : List Step) (one other : Status) → (line ≡ None → ⊥) → DueOfBuilt line steps one → DueOfBuilt line steps other → one ≡ other
+one_of_built (Some line) steps one other some a b = a ∙ sym b
+one_of_built None steps one other some a b = absurd (some refl)
 
-same_frame : (side : Side) (cause : FrameCause) (a b : Half) → a.order ≡ b.order → status.Frame (reader_of side) 1 (length (frames_of (given_by side a))) cause ≡ status.Frame (reader_of side) 1 (length (frames_of (given_by side b))) cause
-same_frame side cause a b same = ap (λ (o : List (Way × List ℕ)). status.Frame (reader_of side) 1 (length (frames_of (of_way (heard_way side) o))) cause) same
-
-same_status : (end : End) (pair there : Pair) → pair.near.order ≡ there.near.order → pair.far.order ≡ there.far.order → status_of pair end ≡ status_of there end
-same_status ends.Drained pair there near far = refl
-same_status ends.Stopped pair there near far = refl
-same_status (ends.Fault (faults.Peer Near cause)) pair there near far = same_peer Near (peer_cause cause) pair.near there.near near
-same_status (ends.Fault (faults.Peer Far cause)) pair there near far = same_peer Far (peer_cause cause) pair.far there.far far
-same_status (ends.Fault (faults.Frame Near cause)) pair there near far = same_frame Near (frame_cause cause) pair.near there.near near
-same_status (ends.Fault (faults.Frame Far cause)) pair there near far = same_frame Far (frame_cause cause) pair.far there.far far
-
-one_of_runs : (steps : List Step) (one other : Status) → RunsTo steps one → RunsTo steps other → one ≡ other
-one_of_runs steps one other a b =
-    let same = one_run steps a.pair b.pair a.end b.end a.runs b.runs in
-    a.answered ∙ ap (status_of a.pair) same.0 ∙ same_status b.end a.pair b.pair same.1 same.2 ∙ sym b.answered
-
-one_of_built : (line : Option ℕ) (steps : List Step) (one other : Status) → DueOfBuilt line steps one → DueOfBuilt line steps other → one ≡ other
-one_of_built (Some line) steps one other a b = a ∙ sym b
-one_of_built None steps one other a b = one_of_runs steps one other a b
-
-one_of_read : (told : Result (List Step) ScriptRead) (one other : Status) → DueOfRead told one → DueOfRead told other → one ≡ other
-one_of_read (Ok steps) one other a b = one_of_built (first_unbuilt steps) steps one other a b
-one_of_read (Err (read.Fault line cause)) one other a b = a ∙ sym b
-one_of_read (Err read.Lines) one other a b = a ∙ sym b
-one_of_read (Err read.Memory) one other a b = absurd a
+one_of_read : (told : Result (List Step) ScriptRead) (one other : Status) → ((steps : List Step) → told ≡ Ok steps → first_unbuilt steps ≡ None → ⊥) → DueOfRead told one → DueOfRead told other → one ≡ other
+one_of_read (Ok steps) one other none a b = one_of_built (first_unbuilt steps) steps one other (none steps refl) a b
+one_of_read (Err (read.Fault line cause)) one other none a b = a ∙ sym b
+one_of_read (Err read.Lines) one other none a b = a ∙ sym b
+one_of_read (Err read.Memory) one other none a b = absurd a
 
 above_within : (n : ℕ) → MOST_INPUT < n → n ≤ MOST_INPUT → ⊥
 above_within n many few = absurd (omega arith)
 
 pub one_is_due : OneIsDue
-one_is_due bytes one other a b = ⊎_elim
+one_is_due bytes one other none a b = ⊎_elim
     (λ over. ⊎_elim (λ above. over.1 ∙ sym above.1) (λ within. absurd (above_within (length bytes) over.0 within.0)) b)
-    (λ here. ⊎_elim (λ above. absurd (above_within (length bytes) above.0 here.0)) (λ within. one_of_read (steps_of bytes) one other here.1 within.1) b)
+    (λ here. ⊎_elim (λ above. absurd (above_within (length bytes) above.0 here.0)) (λ within. one_of_read (steps_of bytes) one other (λ steps spelled built. none steps (record { spelled = spelled; built = built })) here.1 within.1) b)
     a
-
--- the status of a run that meets no fault
-no_fault_done : (end : End) (pair : Pair) → ((fault : Fault) → end ≡ ends.Fault fault → ⊥) → status_of pair end ≡ status.Done
-no_fault_done ends.Drained pair none = refl
-no_fault_done ends.Stopped pair none = refl
-no_fault_done (ends.Fault fault) pair none = absurd (none fault refl)
-
-done_of_script : (bytes : List ℕ) (steps : List Step) (answer : Status) → IsScript bytes steps → AllPass steps → DueOfRead (steps_of bytes) answer → answer ≡ status.Done
-done_of_script bytes steps answer script all due =
-    let built = subst (λ (told : Result (List Step) ScriptRead). DueOfRead told answer) script.spelled due in
-    let run : RunsTo steps answer = subst (λ (it : Option ℕ). DueOfBuilt it steps answer) script.built built in
-    run.answered ∙ no_fault_done run.end run.pair (λ fault is. no_fault_comes steps run.pair fault all (subst (Runs steps run.pair) is run.runs))
-
-pub goes_through : GoesThrough
-goes_through texts answer words old new out written bytes steps outcome command left few script all no_read no_write = ⊎_elim
-    (λ due. ⊎_elim (λ above. absurd (above_within (length bytes) above.0 few)) (λ within. inl (done_of_script bytes steps answer script all within.1)) due)
-    (λ others. ⊎_elim (λ hindered. ⊎_elim (λ memory. inr memory) (λ failed. absurd (no_write failed.1)) hindered) (λ fault. absurd (no_read fault.1)) others)
-    (status_decided texts answer words old new out written bytes outcome command left)
-
-pub drains_unless_stopped : DrainsUnlessStopped
-drains_unless_stopped steps pair ends.Drained line ran done all = (refl, ran.came.0)
-drains_unless_stopped steps pair ends.Stopped line ran done all = absurd (stops_at_stop steps pair ran.runs all)
-drains_unless_stopped steps pair (ends.Fault (faults.Peer side cause)) line ran done all = absurd (cc)
-drains_unless_stopped steps pair (ends.Fault (faults.Frame side cause)) line ran done all = absurd (cc)

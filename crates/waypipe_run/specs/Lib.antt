@@ -1,12 +1,11 @@
 pub mod Built
 pub mod Codes
 pub mod Endings
+pub mod Headline
 pub mod Moving
 pub mod Names
-pub mod Outcomes
 pub mod Parts
-pub mod Printing
-pub mod Report
+pub mod Reports
 pub mod Streams
 pub mod Texts
 pub mod Top

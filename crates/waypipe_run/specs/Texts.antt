@@ -21,6 +21,12 @@ drained_text = codes "drained\n"
 unfoldable pub stopped_text : List ℕ
 stopped_text = codes "stopped\n"
 
+unfoldable pub closed_text : List ℕ
+closed_text = codes "closed\n"
+
+unfoldable pub link_failed_text : List ℕ
+link_failed_text = codes "link failed\n"
+
 unfoldable pub script_text : ℕ → ScriptCause → List ℕ
 script_text line cause =
     codes "script line " ++ (decimal line ++ (codes ": " ++ (script_name cause ++ (10 ∷ []))))

@@ -10,28 +10,30 @@ use Rattle.transfer_frames.specs.declared.frame.Frame.{Frame}
 use Rattle.transfer_frames.specs.declared.cause.FrameCause.{FrameCause}
 use Rattle.frame_stream.specs.Listing.{Lists, text_of}
 use Rattle.script_lang.specs.Grammar.{steps_of}
+use Rattle.script_lang.specs.Trial.{trial_text}
 use Rattle.script_lang.specs.declared.causes.ScriptCause.{ScriptCause}
 use Rattle.script_lang.specs.declared.causes.ScriptCause.TheVariants.{NotBuilt}
 use Rattle.script_lang.specs.declared.causes.ScriptRead.TheVariants as read
 use Rattle.script_lang.specs.declared.steps.Step.{Step}
-use Rattle.replay_model.specs.Halves.{Pair}
-use Rattle.replay_model.specs.declared.ends.End.{End}
+use Rattle.proxy_trail.specs.declared.pair.PairRecord.{PairRecord}
+use Rattle.script_replay.specs.Outcome.{Replays}
+use Rattle.pair_report.specs.Report.{report_of, told_of}
+use Rattle.pair_report.specs.declared.options.ReportOptions.{ReportOptions}
 use Rattle.wp_outside.specs.Counts.{Rose}
 use Rattle.wp_outside.specs.Lines.{Line, Same}
 use Rattle.wp_outside.specs.Pieces.{IfTold, held_with}
-use Rattle.wp_outside.specs.declared.kinds.Side.TheVariants as side
 use Rattle.waypipe_run.specs.Built.{first_unbuilt}
+use Rattle.waypipe_run.specs.Endings.{EndsReport}
 use Rattle.waypipe_run.specs.Moving.{Took, MOST_INPUT, TookNoMore, WroteFront}
-use Rattle.waypipe_run.specs.Outcomes.{Ran, status_of, last_line, connections_of, counted_of}
-use Rattle.waypipe_run.specs.Report.{report}
+use Rattle.waypipe_run.specs.Reports.{options_of, trial_options}
 use Rattle.waypipe_run.specs.Texts.{usage_text, read_failed_text, script_text, limit_text}
 use Rattle.waypipe_run.specs.Texts.{frame_text, rest_text}
-use Rattle.waypipe_run.specs.Words.{IsReplay, IsFrames, IsCommand, Asks}
+use Rattle.waypipe_run.specs.Words.{IsReplay, IsTrial, IsFrames, IsCommand, AsksInput}
 use Rattle.half_model.specs.declared.causes.Limit.TheVariants.{Input, Lines}
 use Rattle.waypipe_run.specs.declared.status.Reader.TheVariants as reader
 use Rattle.waypipe_run.specs.declared.status.Status.{Status}
 use Rattle.waypipe_run.specs.declared.status.Status.TheVariants as status
-use Rattle.waypipe_run.specs.declared.words.Command.{Command}
+use Rattle.waypipe_run.specs.declared.words.Task.{Task}
 
 -- what the input and the link tell at a moment: the bytes that are left, how many reads failed, and
 -- what went over each connection
@@ -50,17 +52,15 @@ pub record Output : Type 0 where
 
 -- ---- a script
 
--- what a replay prints, and the status that it answers
+-- What a replay prints, and the status that it answers: it left a pair of proxies with their
+-- records, of which the text is the report. That the pair is the end of a run of the script, and
+-- what the link tells of it, is `Replays`; what holds of each such pair is said by laws.
 pub record Reported
-    (texts : Bool) (steps : List Step) (answer : Status) (line : ℕ → Line) (text : List ℕ)
-    : Type 0 where
-  pub pair : Pair
-  pub end : End
-  pub ran : Ran steps pair end line
-  pub answered : answer ≡ status_of pair end
-  pub printed : text
-      ≡ report texts (connections_of pair) (counted_of side.Near pair) (counted_of side.Far pair)
-      ++ last_line pair end
+    (options : ReportOptions) (steps : List Step) (answer : Status) (line : ℕ → Line)
+    (text : List ℕ) : Type 0 where
+  pub pair : PairRecord
+  pub replays : Replays steps line pair
+  pub ends : EndsReport pair.end answer (report_of options (told_of pair)) text
 
 -- the lines of a text are this script, and all of them are run
 pub record IsScript (bytes : List ℕ) (steps : List Step) : Type 0 where
@@ -69,11 +69,11 @@ pub record IsScript (bytes : List ℕ) (steps : List Step) : Type 0 where
 
 -- a text that is a script is replayed
 pub record IsReplayed
-    (texts : Bool) (answer : Status) (bytes : List ℕ) (after : ℕ → Line) (text : List ℕ)
-    : Type 0 where
+    (options : ReportOptions) (answer : Status) (bytes : List ℕ) (after : ℕ → Line)
+    (text : List ℕ) : Type 0 where
   pub steps : List Step
   pub script : IsScript bytes steps
-  pub reported : Reported texts steps answer after text
+  pub reported : Reported options steps answer after text
 
 -- the line of a text for which it is not replayed: the first that is no line of a script, with its
 -- first cause; or, of a script, the first that is not run
@@ -104,10 +104,20 @@ pub record IsTooLong
   pub printed : text ≡ limit_text Lines
 
 -- what a text is answered with
-abbrev pub RepliesToText : Bool → Status → List ℕ → (ℕ → Line) → (ℕ → Line) → List ℕ → Type 0
-RepliesToText texts answer bytes before after text =
-    IsReplayed texts answer bytes after text
+abbrev pub RepliesToText : ReportOptions → Status → List ℕ → (before after : ℕ → Line) → List ℕ
+    → Type 0
+RepliesToText options answer bytes before after text =
+    IsReplayed options answer bytes after text
     ⊎ (IsNoScript answer bytes before after text ⊎ IsTooLong answer bytes before after text)
+
+-- ---- a trial
+
+-- the script of so many rounds is replayed
+pub record TrialReported
+    (rounds : ℕ) (answer : Status) (after : ℕ → Line) (text : List ℕ) : Type 0 where
+  pub steps : List Step
+  pub script : steps_of (trial_text rounds) ≡ Ok steps
+  pub reported : Reported trial_options steps answer after text
 
 -- ---- a stream of frames
 
@@ -158,8 +168,8 @@ pub record IsUsage
 pub record IsReadFault
     (answer : Status) (words : List (String Global)) (old new : Outside) (text : List ℕ)
     : Type 0 where
-  pub command : Command
-  pub asks : Asks command words
+  pub task : Task
+  pub asks : AsksInput task words
   pub answered : answer ≡ status.ReadFault
   pub rose : Rose old.faults new.faults
   pub one_more : TookNoMore old.left new.left
@@ -170,8 +180,8 @@ pub record IsReadFault
 pub record IsLimit
     (answer : Status) (words : List (String Global)) (old new : Outside) (text : List ℕ)
     : Type 0 where
-  pub command : Command
-  pub asks : Asks command words
+  pub task : Task
+  pub asks : AsksInput task words
   pub answered : answer ≡ status.Limit Input
   pub above : IfTold old.left (λ left. MOST_INPUT < length left)
   pub one_more : TookNoMore old.left new.left
@@ -184,10 +194,25 @@ pub record IsAnswer
     (answer : Status) (words : List (String Global)) (old new : Outside) (text : List ℕ)
     : Type 0 where
   pub texts : Bool
-  pub asks : IsReplay texts words
+  pub long : Bool
+  pub asks : IsReplay texts long words
   pub bytes : List ℕ
   pub read : ReadWhole old new bytes
-  pub replies : RepliesToText texts answer bytes old.line new.line text
+  pub replies : RepliesToText (options_of texts long) answer bytes old.line new.line text
+
+-- nothing of the input was read
+pub record Unread (old new : Outside) : Type 0 where
+  pub left : new.left ≡ old.left
+  pub faults : new.faults ≡ old.faults
+
+-- a trial is answered
+pub record IsTried
+    (answer : Status) (words : List (String Global)) (old new : Outside) (text : List ℕ)
+    : Type 0 where
+  pub rounds : ℕ
+  pub asks : IsTrial rounds words
+  pub unread : Unread old new
+  pub reported : TrialReported rounds answer new.line text
 
 -- a stream of frames that was read whole is answered; nothing goes over the link
 pub record IsListed
@@ -205,7 +230,8 @@ Replies answer words old new text =
     IsUsage answer words old new text
     ⊎ (IsReadFault answer words old new text
     ⊎ (IsLimit answer words old new text
-    ⊎ (IsAnswer answer words old new text ⊎ IsListed answer words old new text)))
+    ⊎ (IsAnswer answer words old new text
+    ⊎ (IsListed answer words old new text ⊎ IsTried answer words old new text))))
 
 -- ---- the whole call
 
@@ -229,18 +255,25 @@ pub record PartlyPrinted
 -- the whole input was read, and is a script of which all lines are run
 pub record MayReplay (words : List (String Global)) (old new : Outside) : Type 0 where
   pub texts : Bool
-  pub asks : IsReplay texts words
+  pub long : Bool
+  pub asks : IsReplay texts long words
   pub bytes : List ℕ
   pub read : ReadWhole old new bytes
   pub steps : List Step
   pub script : IsScript bytes steps
+
+-- or the words ask for a trial, and nothing was read
+pub record MayTry (words : List (String Global)) (old new : Outside) : Type 0 where
+  pub rounds : ℕ
+  pub asks : IsTrial rounds words
+  pub unread : Unread old new
 
 -- memory ran out: nothing was written, no more was read than in any other call, and nothing went
 -- over the link, unless a replay had come so far
 pub record OutOfMemory
     (words : List (String Global)) (old new : Outside) (out written : Output) : Type 0 where
   pub one_more : TookNoMore old.left new.left
-  pub untouched : Same old.line new.line ⊎ MayReplay words old new
+  pub untouched : Same old.line new.line ⊎ (MayReplay words old new ⊎ MayTry words old new)
   pub unwritten : written ≡ out
 
 -- what the call owes

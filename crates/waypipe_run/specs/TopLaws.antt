@@ -10,35 +10,32 @@ use Rattle.transfer_frames.specs.declared.frame.Frame.{Frame}
 use Rattle.transfer_frames.specs.declared.cause.FrameCause.{FrameCause}
 use Rattle.frame_stream.specs.Listing.{Lists}
 use Rattle.script_lang.specs.Grammar.{steps_of}
-use Rattle.script_lang.specs.Puts.{before_stop}
+use Rattle.script_lang.specs.Trial.{trial_text}
 use Rattle.script_lang.specs.declared.causes.ScriptCause.TheVariants.{NotBuilt}
 use Rattle.script_lang.specs.declared.causes.ScriptRead.{ScriptRead}
 use Rattle.script_lang.specs.declared.causes.ScriptRead.TheVariants as read
 use Rattle.script_lang.specs.declared.steps.Step.{Step}
-use Rattle.replay_model.specs.Halves.{Pair}
-use Rattle.replay_model.specs.Headline.{HoldsAll}
-use Rattle.replay_model.specs.RunLaws.{AllPass}
-use Rattle.replay_model.specs.Runs.{Runs}
-use Rattle.replay_model.specs.declared.ends.End.{End}
-use Rattle.replay_model.specs.declared.ends.End.TheVariants as ends
+use Rattle.pair_runs.specs.Runs.{Played, End, Runs}
+use Rattle.pair_runs.specs.States.{State}
+use Rattle.script_replay.specs.Playing.{kept_end}
 use Rattle.wp_outside.specs.Counts.{Rose}
-use Rattle.wp_outside.specs.Lines.{Line}
 use Rattle.waypipe_run.specs.Built.{first_unbuilt}
+use Rattle.waypipe_run.specs.Endings.{status_of}
 use Rattle.waypipe_run.specs.Moving.{MOST_INPUT}
-use Rattle.waypipe_run.specs.Outcomes.{Ran, status_of}
 use Rattle.waypipe_run.specs.Top.{Outside, Output, Outcome, IsScript}
-use Rattle.waypipe_run.specs.Words.{IsReplay, IsFrames, IsCommand}
+use Rattle.waypipe_run.specs.Words.{IsReplay, IsTrial, IsFrames, IsCommand}
 use Rattle.half_model.specs.declared.causes.Limit.TheVariants.{Input, Lines}
 use Rattle.waypipe_run.specs.declared.status.Reader.TheVariants as reader
 use Rattle.waypipe_run.specs.declared.status.Status.{Status}
 use Rattle.waypipe_run.specs.declared.status.Status.TheVariants as status
 
--- the status that one run of a script calls for
+-- the status that a run of a script calls for
 pub record RunsTo (steps : List Step) (answer : Status) : Type 0 where
-  pub pair : Pair
+  pub played : List Played
+  pub last : State
   pub end : End
-  pub runs : Runs steps pair end
-  pub answered : answer ≡ status_of pair end
+  pub runs : Runs steps played last end
+  pub answered : answer ≡ status_of (kept_end end)
 
 -- the status of a script, by its first line that is not run, or by its run
 abbrev pub DueOfBuilt : Option ℕ → List Step → Status → Type 0
@@ -58,9 +55,10 @@ Due bytes answer =
     ((MOST_INPUT < length bytes) × (answer ≡ status.Limit Input))
     ⊎ ((length bytes ≤ MOST_INPUT) × DueOfRead (steps_of bytes) answer)
 
--- an input calls for one status
+-- an input that is no script to be run calls for one status
 abbrev pub OneIsDue : Type 0
-OneIsDue = (bytes : List ℕ) (one other : Status) → Due bytes one → Due bytes other → one ≡ other
+OneIsDue = (bytes : List ℕ) (one other : Status) → ((steps : List Step) → IsScript bytes steps → ⊥)
+    → Due bytes one → Due bytes other → one ≡ other
 
 -- want of memory, or a write that failed
 abbrev pub Hindered : Status → (out written : Output) → Type 0
@@ -82,10 +80,10 @@ ReadFailed answer old new = (answer ≡ status.ReadFault) × Rose old.faults new
 -- the command is answered by the status that its input calls for, unless a read failed
 abbrev pub StatusOfInput : Type 0
 StatusOfInput =
-    (texts : Bool) (answer : Status) (words : List (String Global)) (old new : Outside)
+    (texts long : Bool) (answer : Status) (words : List (String Global)) (old new : Outside)
     (out written : Output) (bytes : List ℕ)
     → Outcome answer words old new out written
-    → IsReplay texts words
+    → IsReplay texts long words
     → old.left ≡ Some bytes
     → Due bytes answer ⊎ (Hindered answer out written ⊎ ReadFailed answer old new)
 
@@ -113,27 +111,12 @@ StatusOfStream =
     → (answer ≡ status_of_stream bytes frames rest)
     ⊎ (Hindered answer out written ⊎ ReadFailed answer old new)
 
--- a script of lines that are all run, within the limits, of which all allowed orders of messages
--- pass at both proxies, goes through where no read and no write fails and memory is there
-abbrev pub GoesThrough : Type 0
-GoesThrough =
-    (texts : Bool) (answer : Status) (words : List (String Global)) (old new : Outside)
-    (out written : Output) (bytes : List ℕ) (steps : List Step)
+-- a trial is answered by the status that a run of its script calls for
+abbrev pub StatusOfTrial : Type 0
+StatusOfTrial =
+    (rounds : ℕ) (answer : Status) (words : List (String Global)) (old new : Outside)
+    (out written : Output)
     → Outcome answer words old new out written
-    → IsReplay texts words
-    → old.left ≡ Some bytes
-    → length bytes ≤ MOST_INPUT
-    → IsScript bytes steps
-    → AllPass steps
-    → (Rose old.faults new.faults → ⊥)
-    → (Rose out.faults written.faults → ⊥)
-    → (answer ≡ status.Done) ⊎ (answer ≡ status.Memory)
-
--- without a line `stop`, a replay that meets no fault drains, and each peer has received all
-abbrev pub DrainsUnlessStopped : Type 0
-DrainsUnlessStopped =
-    (steps : List Step) (pair : Pair) (end : End) (line : ℕ → Line)
-    → Ran steps pair end line
-    → status_of pair end ≡ status.Done
-    → before_stop steps ≡ steps
-    → (end ≡ ends.Drained) × HoldsAll steps pair
+    → IsTrial rounds words
+    → ((steps : List Step) × (steps_of (trial_text rounds) ≡ Ok steps) × RunsTo steps answer)
+    ⊎ Hindered answer out written

@@ -16,23 +16,12 @@ pub fn first_unbuilt(steps: &[Step]) -> Option<u32>
     None
 }
 
-/// Whether a line is run. A message is where it carries no handle.
+/// Whether a line is run: all are but those that replace a byte of the link.
 fn is_built(what: &StepKind) -> bool
     ensures { result ≡ is_built what.now }
 {
     match what {
-        StepKind::Say { message, .. } => message.handles.len() == 0,
-        StepKind::Hex { .. }
-        | StepKind::Await { .. }
-        | StepKind::Take { .. }
-        | StepKind::Connect
-        | StepKind::Send { .. }
-        | StepKind::Recv { .. }
-        | StepKind::Both { .. }
-        | StepKind::Cut { .. }
-        | StepKind::Settle
-        | StepKind::Drain { .. }
-        | StepKind::Stop => true,
-        _ => false,
+        StepKind::Spoil { .. } => false,
+        _ => true,
     }
 }

@@ -1,81 +1,73 @@
-//! How a replay's report ends.
+//! How the report of a replay ends.
 
 ghost use Rattle.std.specs.Prelude.{◌≡◌, ◌++◌, IfOk};
-ghost use Rattle.waypipe_run.specs.Endings.{EndsReport, peer_of};
-ghost use Rattle.waypipe_run.specs.Outcomes.{peer_cause, frame_cause, reader_of};
-ghost use Rattle.waypipe_run.specs.Texts.{peer_text, frame_text};
+ghost use Rattle.waypipe_run.specs.Endings.{EndsReport, EndsByFault, reader_of};
+ghost use Rattle.waypipe_run.specs.Texts.{peer_text, frame_text, limit_text};
 
 use crate::replies::{Reply, ended};
 use crate::status::{Reader, Status};
-use crate::texts::{drained_text, frame_text, peer_text, stopped_text};
-use half_model::PeerCause;
-use pair_replay::{PeerReport, Replayed};
-use replay_model::{End, Fault, Refusal};
+use crate::texts::{
+    closed_text, drained_text, frame_text, limit_text, link_failed_text, peer_text, stopped_text,
+};
+use half_model::{Limit, PeerCause};
+use proxy_trail::PairEnd;
+use side_model::ProxyFault;
 use std::alloc::{AllocError, Global};
 use transfer_frames::FrameCause;
 use wl_wire::Text;
 use wp_outside::Side;
 
-/// The status that a replay's end gives, and its last line behind the report.
-pub fn end_report(alloc: Global, report: Text, replayed: &Replayed) -> Result<Reply, AllocError>
-    ensures { IfOk result (λ reply. EndsReport replayed.now reply.status report reply.text) }
+/// The status that the end of a pair gives, and its last line behind the report.
+///
+/// # Errors
+/// Where memory runs out, or where a side had none.
+pub fn end_report(alloc: Global, report: Text, end: PairEnd) -> Result<Reply, AllocError>
+    ensures { IfOk result (λ reply. EndsReport end reply.status report reply.text) }
 {
-    match replayed.end {
-        End::Drained => ended(Status::Done, report, drained_text()),
-        End::Stopped => ended(Status::Done, report, stopped_text()),
-        End::Fault(Fault::Peer { side, cause }) => {
-            refuse_message(alloc, report, side, peer_of(replayed, side).sent, cause)
-        }
-        End::Fault(Fault::Frame { side, cause }) => {
-            refuse_frame(alloc, report, side, peer_of(replayed, side).place, cause)
-        }
+    match end {
+        PairEnd::Drained => ended(Status::Done, report, drained_text()),
+        PairEnd::Stopped => ended(Status::Done, report, stopped_text()),
+        PairEnd::Closed => ended(Status::Done, report, closed_text()),
+        PairEnd::LinkFault => ended(Status::LinkFault, report, link_failed_text()),
+        PairEnd::Fault { side, fault } => end_by_fault(alloc, report, side, fault),
     }
 }
 
-/// What is reported of the peer beside a side.
-fn peer_of(replayed: &Replayed, side: Side) -> &PeerReport
-    ensures { result.now ≡ peer_of side replayed.now }
-{
-    match side {
-        Side::Near => &replayed.application,
-        Side::Far => &replayed.compositor,
-    }
-}
-
-/// A message of a peer that is refused.
-fn refuse_message(
+/// The end by a side that failed.
+fn end_by_fault(
     alloc: Global,
     report: Text,
     side: Side,
-    index: u64,
-    cause: Refusal,
+    fault: ProxyFault,
 ) -> Result<Reply, AllocError>
-    ensures status { IfOk result (λ reply. reply.status
-        ≡ Status.Peer side index (peer_cause cause)) }
-    ensures text { IfOk result (λ reply. reply.text
-        ≡ report ++ peer_text side index (peer_cause cause)) }
+    ensures { IfOk result (λ reply. EndsByFault side fault reply.status report reply.text) }
 {
-    let cause = peer_cause(cause);
-    let last = peer_text(alloc, side, index, cause)?;
-    ended(Status::Peer { side, index, cause }, report, last.as_str())
+    match fault {
+        ProxyFault::Frame {
+            connection,
+            place,
+            cause,
+        } => end_by_frame(alloc, report, reader_of(side), connection, place, cause),
+        ProxyFault::Peer { index, cause } => end_by_message(alloc, report, side, index, cause),
+        ProxyFault::Limit { which } => end_by_limit(alloc, report, which),
+        ProxyFault::Memory => Err(AllocError),
+    }
 }
 
-/// A frame that is refused, on the one connection.
-fn refuse_frame(
+/// The end by a frame that is refused.
+fn end_by_frame(
     alloc: Global,
     report: Text,
-    side: Side,
+    reader: Reader,
+    connection: u32,
     place: u64,
-    cause: Refusal,
+    cause: FrameCause,
 ) -> Result<Reply, AllocError>
     ensures status { IfOk result (λ reply. reply.status
-        ≡ Status.Frame (reader_of side) 1 place (frame_cause cause)) }
+        ≡ Status.Frame reader connection place cause) }
     ensures text { IfOk result (λ reply. reply.text
-        ≡ report ++ frame_text (reader_of side) 1 place (frame_cause cause)) }
+        ≡ report ++ frame_text reader connection place cause) }
 {
-    let reader = reader_of(side);
-    let connection = 1;
-    let cause = frame_cause(cause);
     let last = frame_text(alloc, reader, connection, place, cause)?;
     ended(
         Status::Frame {
@@ -89,24 +81,28 @@ fn refuse_frame(
     )
 }
 
-/// A refusal as the cause for which what a peer sends is refused.
-fn peer_cause(cause: Refusal) -> PeerCause
-    ensures { result ≡ peer_cause cause }
+/// The end by a message of a peer that is refused.
+fn end_by_message(
+    alloc: Global,
+    report: Text,
+    side: Side,
+    index: u64,
+    cause: PeerCause,
+) -> Result<Reply, AllocError>
+    ensures status { IfOk result (λ reply. reply.status ≡ Status.Peer side index cause) }
+    ensures text { IfOk result (λ reply. reply.text ≡ report ++ peer_text side index cause) }
 {
-    match cause {
-        Refusal::Object(fault) => PeerCause::Object(fault),
-        Refusal::HandleMissing => PeerCause::HandleMissing,
-    }
+    let last = peer_text(alloc, side, index, cause)?;
+    ended(Status::Peer { side, index, cause }, report, last.as_str())
 }
 
-/// A refusal as the cause for which a frame is refused.
-fn frame_cause(cause: Refusal) -> FrameCause
-    ensures { result ≡ frame_cause cause }
+/// The end by a limit that was met.
+fn end_by_limit(alloc: Global, report: Text, which: Limit) -> Result<Reply, AllocError>
+    ensures status { IfOk result (λ reply. reply.status ≡ Status.Limit which) }
+    ensures text { IfOk result (λ reply. reply.text ≡ report ++ limit_text which) }
 {
-    match cause {
-        Refusal::Object(fault) => FrameCause::PeerMessage(fault),
-        Refusal::HandleMissing => FrameCause::RidCount,
-    }
+    let last = limit_text(alloc, which)?;
+    ended(Status::Limit { which }, report, last.as_str())
 }
 
 /// What a proxy read of the link.

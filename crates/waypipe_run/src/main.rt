@@ -1,5 +1,6 @@
 //! A pair of Wayland proxies beside each other: the program replays a script of what an application
-//! puts on its wire, and reports what the compositor received.
+//! and a compositor put on their wires and of how bytes move between the proxies, and reports what
+//! came of it.
 #![tactic(auto)]
 
 mod answers;
@@ -11,7 +12,6 @@ mod names;
 mod plain;
 mod reading;
 mod replies;
-mod report;
 mod scripts;
 mod status;
 #[cfg(test)]
@@ -22,11 +22,16 @@ mod writing;
 
 use plain::run_plain;
 use status::Status;
+use std::alloc::{AllocError, Global};
 use std::process::ExitCode;
 use std::{env, io};
 use wp_outside::{LineStore, StdSink, StdSource};
 
+/// The largest block that the C library's allocator takes from the system alone, less a page.
+const LARGEST_BLOCK: usize = 33_550_336;
+
 fn main(rt: HostRuntime) -> ExitCode {
+    keep_freed_memory(rt.alloc());
     let status = match words_of(&rt) {
         Some(words) => {
             let mut input = StdSource::new(rt.stdin());
@@ -43,6 +48,13 @@ fn main(rt: HostRuntime) -> ExitCode {
         None => Status::Memory,
     };
     ExitCode::from(status.code())
+}
+
+/// Takes a large block and lets it go. From then on the C library's allocator keeps what is let go and
+/// gives it out again, where before it took each block of 128 KiB or more from the system, page by
+/// page and filled with zeros, and gave it back. The frames of pictures are such blocks.
+fn keep_freed_memory(alloc: Global) {
+    let _block: Result<Vec<u8>, AllocError> = Vec::with_capacity(alloc, LARGEST_BLOCK);
 }
 
 /// The words after the program's name, or none where memory runs out. Words of which one is no

@@ -1,6 +1,6 @@
 //! The call that the program makes.
 ghost use Rattle.std.specs.Prelude.{◌≡◌};
-ghost use Rattle.replay_model.specs.Link.{NothingOpened};
+ghost use Rattle.script_replay.specs.Standing.{NothingOpened};
 ghost use Rattle.waypipe_run.specs.Top.{Outcome, outside};
 
 use crate::answers::answer;
@@ -9,9 +9,9 @@ use crate::writing::write_all;
 use std::alloc::Global;
 use wp_outside::{LinkStore, Sink, Source};
 
-/// Does what the words ask for: reads the input to its end, replays its script over the link, on
-/// which nothing was opened before, and writes the report. The whole text is made before the first
-/// write.
+/// Does what the words ask for: reads the input to its end, unless they ask for a trial, replays the
+/// script over the link, on which nothing was opened before, and writes the report. The whole text
+/// is made before the first write.
 #[tactic(auto, using(crate::proofs::OutcomeLemmas::written_whole, crate::proofs::OutcomeLemmas::written_part))]
 pub fn run_plain<S: Source, K: Sink, L: LinkStore>(
     alloc: Global,

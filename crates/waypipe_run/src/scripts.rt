@@ -1,52 +1,72 @@
 //! What the program answers to a script.
 
-ghost use Rattle.std.specs.Prelude.{◌≡◌, ◌⊎◌, List, ℕ, IfOk, OnErr};
-ghost use Rattle.pair_replay.specs.Outcome.{Replays};
-ghost use Rattle.replay_model.specs.Link.{NothingOpened};
+ghost use Rattle.std.specs.Prelude.{◌≡◌, ◌⊎◌, ◌≤◌, List, ℕ, IfOk, OnErr};
 ghost use Rattle.script_lang.specs.Grammar.{ReadsScript, steps_of};
 ghost use Rattle.script_lang.specs.declared.steps.Step.{Step};
-ghost use Rattle.wl_tables.specs.declared.way.Way.TheVariants.{Request, Event};
+ghost use Rattle.script_replay.specs.Outcome.{Replays};
+ghost use Rattle.script_replay.specs.Standing.{NothingOpened};
 ghost use Rattle.wp_outside.specs.Lines.{Line, Same};
+ghost use Rattle.pair_report.specs.Report.{report_of, told_of};
 ghost use Rattle.waypipe_run.specs.Built.{first_unbuilt};
+ghost use Rattle.waypipe_run.specs.Endings.{EndsReport};
 ghost use Rattle.waypipe_run.specs.Parts.{RepliesToScript};
-ghost use Rattle.waypipe_run.specs.Printing.{PrintsAll};
 ghost use Rattle.waypipe_run.specs.Texts.{script_text};
-ghost use Rattle.waypipe_run.specs.Top.{IsScript, RepliesToText, Reported};
+ghost use Rattle.waypipe_run.specs.Top.{IsScript, RepliesToText, Reported, TrialReported};
 
 use crate::built::first_unbuilt;
 use crate::endings::end_report;
 use crate::replies::{Reply, alone, limited};
-use crate::report::report;
 use crate::status::Status;
 use crate::texts::script_text;
 use half_model::Limit;
-use pair_replay::{Replayed, replay};
-use script_lang::{Script, ScriptCause, ScriptRead, read_script};
+use pair_report::{Got, ReportOptions, report};
+use proxy_trail::PairRecord;
+use script_lang::{Script, ScriptCause, ScriptRead, read_script, trial_script};
+use script_replay::{let_go, replay};
 use std::alloc::{AllocError, Global};
 use wl_wire::Bytes;
 use wp_outside::LinkStore;
 
-/// Replays the script that a text is. The messages of the report are printed as text where `texts`
-/// says so.
+/// Replays the script that a text is, and reports what these options ask for.
 #[tactic(auto, using(crate::proofs::AnswerLemmas::on_still))]
 pub fn answer_text<L: LinkStore>(
     alloc: Global,
-    texts: bool,
+    options: ReportOptions,
     text: Bytes,
     line: &mut L,
 ) -> Result<Reply, AllocError>
     requires { NothingOpened (L.line line.old) }
-    ensures reply { IfOk result (λ reply. RepliesToText texts reply.status text
+    ensures reply { IfOk result (λ reply. RepliesToText options reply.status text
         (L.line line.old) (L.line line.new) reply.text) }
     ensures untouched { OnErr result (Same (L.line line.old) (L.line line.new)
         ⊎ ((steps : List Step) × IsScript text steps)) }
 {
     match script_of(alloc, text) {
-        Ok(script) => answer_script(alloc, texts, script, line),
+        Ok(script) => answer_script(alloc, options, script, line),
         Err(ScriptRead::Fault { line, cause }) => refused(alloc, line, cause),
         Err(ScriptRead::Lines) => limited(alloc, Limit::Lines),
         Err(ScriptRead::Memory) => Err(AllocError),
     }
+}
+
+/// Replays the script of a trial of so many rounds, and makes a long report without messages.
+pub fn answer_trial<L: LinkStore>(
+    alloc: Global,
+    rounds: u32,
+    line: &mut L,
+) -> Result<Reply, AllocError>
+    requires low { 1 ≤ rounds }
+    requires high { rounds ≤ 500 }
+    requires nothing { NothingOpened (L.line line.old) }
+    ensures { IfOk result (λ reply. TrialReported rounds reply.status
+        (L.line line.new) reply.text) }
+{
+    let options = ReportOptions {
+        long: true,
+        got: Got::LeftOut,
+    };
+    let script = trial_script(alloc, rounds)?;
+    answer_played(alloc, options, script, line)
 }
 
 /// Reads a script, and drops its text.
@@ -69,48 +89,64 @@ fn refused(alloc: Global, line: u32, cause: ScriptCause) -> Result<Reply, AllocE
 #[tactic(auto, using(crate::proofs::AnswerLemmas::on_still, crate::proofs::AnswerLemmas::on_run))]
 fn answer_script<L: LinkStore>(
     alloc: Global,
-    texts: bool,
+    options: ReportOptions,
     script: Script,
     line: &mut L,
 ) -> Result<Reply, AllocError>
     requires { NothingOpened (L.line line.old) }
-    ensures reply { IfOk result (λ reply. RepliesToScript texts script.steps reply.status
+    ensures reply { IfOk result (λ reply. RepliesToScript options script.steps reply.status
         (L.line line.old) (L.line line.new) reply.text) }
     ensures untouched { OnErr result (Same (L.line line.old) (L.line line.new)
         ⊎ (first_unbuilt script.steps ≡ None)) }
 {
     match first_unbuilt(script.steps.as_slice()) {
         Some(line) => refused(alloc, line, ScriptCause::NotBuilt),
-        None => {
-            let replayed = replay_of(alloc, script, line)?;
-            answer_replayed(alloc, texts, replayed)
-        }
+        None => answer_played(alloc, options, script, line),
     }
 }
 
-/// What a script's replay came to; the script is dropped. All that was received can be printed.
+/// The pair of proxies that a script's replay leaves; the script is dropped.
 fn replay_of<L: LinkStore>(
     alloc: Global,
     script: Script,
     line: &mut L,
-) -> Result<Replayed, AllocError>
+) -> Result<PairRecord, AllocError>
     requires { NothingOpened (L.line line.old) }
-    ensures replays { IfOk result (λ replayed. Replays script.steps (L.line line.new) replayed) }
-    ensures requests { IfOk result (λ replayed.
-        PrintsAll Request replayed.compositor.received.items) }
-    ensures events { IfOk result (λ replayed.
-        PrintsAll Event replayed.application.received.items) }
+    ensures { IfOk result (λ pair. Replays script.steps (L.line line.new) pair) }
 {
     replay(alloc, &script, line)
 }
 
-/// The report of a replay, and its last line.
-fn answer_replayed(alloc: Global, texts: bool, replayed: Replayed) -> Result<Reply, AllocError>
-    requires requests { PrintsAll Request replayed.compositor.received.items }
-    requires events { PrintsAll Event replayed.application.received.items }
-    ensures { (steps : List Step) (line : ℕ → Line) → Replays steps line replayed
-        → IfOk result (λ reply. Reported texts steps reply.status line reply.text) }
+/// Replays a script, all of whose lines are run, and reports what came of it.
+fn answer_played<L: LinkStore>(
+    alloc: Global,
+    options: ReportOptions,
+    script: Script,
+    line: &mut L,
+) -> Result<Reply, AllocError>
+    requires { NothingOpened (L.line line.old) }
+    ensures { IfOk result (λ reply. Reported options script.steps reply.status
+        (L.line line.new) reply.text) }
 {
-    let text = report(alloc, texts, &replayed)?;
-    end_report(alloc, text, &replayed)
+    match replay_of(alloc, script, line) {
+        Ok(pair) => {
+            let reply = answer_replayed(alloc, options, &pair);
+            let_go(pair);
+            reply
+        }
+        Err(error) => Err(error),
+    }
+}
+
+/// The report of a replay, and its last line.
+fn answer_replayed(
+    alloc: Global,
+    options: ReportOptions,
+    pair: &PairRecord,
+) -> Result<Reply, AllocError>
+    ensures { IfOk result (λ reply. EndsReport pair.now.end reply.status
+        (report_of options (told_of pair.now)) reply.text) }
+{
+    let text = report(alloc, options, pair)?;
+    end_report(alloc, text, pair.end)
 }

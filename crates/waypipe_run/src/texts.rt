@@ -2,7 +2,7 @@
 ghost use Rattle.std.specs.Prelude.{◌≡◌, string_bytes, IfOk};
 ghost use Rattle.waypipe_run.specs.Texts.{usage_text, read_failed_text, drained_text, stopped_text};
 ghost use Rattle.waypipe_run.specs.Texts.{script_text, peer_text, limit_text, frame_text};
-ghost use Rattle.waypipe_run.specs.Texts.{rest_text};
+ghost use Rattle.waypipe_run.specs.Texts.{rest_text, closed_text, link_failed_text};
 
 use crate::names::{
     frame_detail, frame_name, limit_name, peer_name, reader_name, script_name, side_name,
@@ -44,6 +44,22 @@ pub fn stopped_text() -> &'static str
     ensures { result.now ≡ stopped_text }
 {
     "stopped\n"
+}
+
+/// The line of a session that both sides closed.
+#[tactic(auto, unfolding(crate::specs::Texts::closed_text))]
+pub fn closed_text() -> &'static str
+    ensures { result.now ≡ closed_text }
+{
+    "closed\n"
+}
+
+/// The line of a session whose link failed.
+#[tactic(auto, unfolding(crate::specs::Texts::link_failed_text))]
+pub fn link_failed_text() -> &'static str
+    ensures { result.now ≡ link_failed_text }
+{
+    "link failed\n"
 }
 
 /// The line for a script of which a line is none.

@@ -1,7 +1,6 @@
 //! The command `frames`.
 use super::run;
 use crate::status::{Reader, Status};
-use half_model::Limit;
 use std::alloc::{AllocError, Global};
 use std::test::Fail;
 use transfer_frames::FrameCause;
@@ -108,19 +107,5 @@ fn long_frame(rt: HostRuntime) -> Result<(), Fail> {
     assert_eq!(rt; text.len(), 11 + 2 * (16 * 65_532 + 60) + 1 + 7);
     assert_eq!(rt; text.starts_with(b"0 PROTOCOL 010000000000fcff"), true);
     assert_eq!(rt; text.ends_with(b"\nrest 0\n"), true);
-    Ok(())
-}
-
-#[test]
-fn frames_limit(rt: HostRuntime) -> Result<(), Fail> {
-    let alloc = rt.alloc();
-    let (status, text) = list(alloc, vec![in alloc; 0u8; 16_777_217]?, 100)?;
-    assert_eq!(rt;
-        status,
-        Status::Limit {
-            which: Limit::Input
-        }
-    );
-    assert_eq!(rt; text.as_slice(), b"limit input\n".as_slice());
     Ok(())
 }

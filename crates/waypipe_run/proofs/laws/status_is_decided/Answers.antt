@@ -1,4 +1,4 @@
-use Rattle.waypipe_run.proofs.TopLemmas.{other_words, one_is_due, status_decided, stream_decided, goes_through, drains_unless_stopped}
+use Rattle.waypipe_run.proofs.TopLemmas.{other_words, one_is_due, status_decided, stream_decided, trial_decided}
 use Rattle.waypipe_run.proofs.laws.status_is_decided.Goals as goal
 
 pub returns-clause-words : goal.returns-clause-words
@@ -13,8 +13,5 @@ returns-clause-input c = status_decided
 pub returns-clause-stream : goal.returns-clause-stream
 returns-clause-stream c = stream_decided
 
-pub returns-clause-complete : goal.returns-clause-complete
-returns-clause-complete c = goes_through
-
-pub returns-clause-drains : goal.returns-clause-drains
-returns-clause-drains c = drains_unless_stopped
+pub returns-clause-trial : goal.returns-clause-trial
+returns-clause-trial c = trial_decided

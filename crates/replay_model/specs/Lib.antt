@@ -1,9 +1,0 @@
-pub mod Halves
-pub mod Headline
-pub mod Link
-pub mod Moves
-pub mod Orders
-pub mod Passing
-pub mod Rows
-pub mod RunLaws
-pub mod Runs
