@@ -2,12 +2,11 @@
 
 use crate::calls::say_words;
 use crate::links::{break_both, carry, connect_both, settle};
+use crate::pairs::new_pair;
 use crate::trouble::Trouble;
-use crate::words::TOKEN;
 use pair_audit::audit;
-use proxy_trail::Trail;
+use proxy_trail::{PairRecord, Trail};
 use std::alloc::Global;
-use wp_outside::Side;
 
 // Each side writes RESTART, of 32 bytes, a frame of 16 bytes and an ACK of 12; a byte of each side
 // goes over the link in turn. Some moves more change nothing.
@@ -25,21 +24,12 @@ pub fn cuts(alloc: Global) -> Result<u32, Trouble> {
 }
 
 fn is_right(alloc: Global, moves: u32) -> Result<bool, Trouble> {
-    let mut near = Trail::new(alloc, Side::Near, TOKEN)?;
-    with_near(alloc, &mut near, moves)
+    let mut pair = new_pair(alloc)?;
+    go_through(alloc, &mut pair, moves)
 }
 
-fn with_near(alloc: Global, near: &mut Trail, moves: u32) -> Result<bool, Trouble> {
-    let mut far = Trail::new(alloc, Side::Far, TOKEN)?;
-    go_through(alloc, near, &mut far, moves)
-}
-
-fn go_through(
-    alloc: Global,
-    near: &mut Trail,
-    far: &mut Trail,
-    moves: u32,
-) -> Result<bool, Trouble> {
+fn go_through(alloc: Global, pair: &mut PairRecord, moves: u32) -> Result<bool, Trouble> {
+    let (near, far) = (&mut pair.near, &mut pair.far);
     say_words(alloc, near, 1, "sync-2")?;
     say_words(alloc, far, 1, "delete-12")?;
     connect_both(near, far, 1)?;

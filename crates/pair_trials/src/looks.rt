@@ -2,7 +2,8 @@
 
 use half_model::PeerOut;
 use pair_audit::audit;
-use proxy_trail::Trail;
+use pair_report::{ReportOptions, report};
+use proxy_trail::{PairRecord, Trail};
 use std::alloc::Global;
 use std::io;
 
@@ -110,5 +111,21 @@ pub fn show_audit<R: Print>(rt: &R, near: &Trail, far: &Trail) -> io::Result<()>
     match audit(near, far) {
         Ok(_) => println!(rt; "agreed"),
         Err(differs) => println!(rt; "{differs:?}"),
+    }
+}
+
+/// Prints a report.
+pub fn show_report<R: Print>(
+    rt: &R,
+    alloc: Global,
+    options: ReportOptions,
+    pair: &PairRecord,
+) -> io::Result<()> {
+    match report(alloc, options, pair) {
+        Ok(text) => match str::from_utf8(text.as_slice()) {
+            Ok(text) => print!(rt; "{text}"),
+            Err(_) => println!(rt; "no text"),
+        },
+        Err(_) => println!(rt; "no memory"),
     }
 }

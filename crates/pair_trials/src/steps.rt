@@ -1,6 +1,7 @@
 //! What a line of a row says.
 
-use wp_outside::Side;
+use pair_report::{Got, ReportOptions};
+use wp_outside::{HandleKind, Side};
 
 /// One line.
 #[derive(Clone, Copy)]
@@ -19,6 +20,10 @@ pub enum Step<'a> {
     Fill(u32),
     /// Both records are compared.
     Audit,
+    /// The peers are given what there is for them.
+    Give,
+    /// The report.
+    Report(ReportOptions),
     /// A small session is cut behind each of its bytes.
     Cuts,
     /// Pieces of so many messages are carried so many times.
@@ -28,12 +33,16 @@ pub enum Step<'a> {
 /// What one proxy does, or shows.
 #[derive(Clone, Copy)]
 pub enum Act<'a> {
-    /// Its peer puts the same messages on its wire so many times, the handle of a file, that of a
-    /// pipe, whose number is below 0, a note.
+    /// Its peer puts the same messages on its wire so many times, a message by its text, a handle,
+    /// a note.
     Say(u32, &'a str),
-    Hand(u32),
-    Pipe(u32),
+    Tell(&'a str),
+    Hand(i32, HandleKind),
     Note,
+    /// Its peer writes to a pipe, closes a write end, closes a reading end.
+    Write(i32, &'a str),
+    End(i32),
+    Shut(i32),
     /// Its copies are made.
     Copies,
     /// It is asked to close.
@@ -71,6 +80,8 @@ impl<'a> Step<'a> {
             ("settle", _) => Some(Step::Settle),
             ("fill", Some(value)) => Some(Step::Fill(value)),
             ("audit", _) => Some(Step::Audit),
+            ("give", _) => Some(Step::Give),
+            ("report", _) => report_of(rest),
             ("cuts", _) => Some(Step::Cuts),
             ("messages", _) => messages(rest),
             _ => None,
@@ -82,6 +93,24 @@ fn of_side(side: Side, rest: &str) -> Option<Step<'_>> {
     match Act::read(rest) {
         Some(act) => Some(Step::Of(side, act)),
         None => None,
+    }
+}
+
+fn report_of(rest: &str) -> Option<Step<'_>> {
+    let (name, behind) = first_word(rest);
+    let long = name == "long";
+    match got(if long { behind } else { name }) {
+        Some(got) => Some(Step::Report(ReportOptions { long, got })),
+        None => None,
+    }
+}
+
+fn got(name: &str) -> Option<Got> {
+    match name {
+        "hexadecimal" => Some(Got::Hexadecimal),
+        "text" => Some(Got::Text),
+        "without" => Some(Got::LeftOut),
+        _ => None,
     }
 }
 
@@ -98,9 +127,8 @@ impl<'a> Act<'a> {
         let (name, rest) = first_word(line);
         match (name, number(rest)) {
             ("say", _) => Some(Act::Say(1, rest)),
+            ("tell", _) => Some(Act::Tell(rest)),
             ("repeat", _) => repeat(rest),
-            ("hand", Some(number)) => Some(Act::Hand(number)),
-            ("pipe", Some(number)) => Some(Act::Pipe(number)),
             ("note", _) => Some(Act::Note),
             ("copies", _) => Some(Act::Copies),
             ("close", Some(reason)) => Some(Act::Close(reason)),
@@ -109,7 +137,21 @@ impl<'a> Act<'a> {
             ("read", _) => Some(Act::Read(rest)),
             ("lose", Some(most)) => Some(Act::Lose(most)),
             ("weigh", Some(weight)) => Some(Act::Weigh(weight)),
+            ("file" | "pipe" | "write" | "end" | "shut", _) => Act::on_handle(name, rest),
             _ => Act::look(name),
+        }
+    }
+
+    // What is done with a handle, whose number may be below 0.
+    fn on_handle(name: &str, rest: &'a str) -> Option<Act<'a>> {
+        let (word, behind) = first_word(rest);
+        match (name, handle(word)) {
+            ("file", Some(number)) => Some(Act::Hand(number, HandleKind::File)),
+            ("pipe", Some(number)) => Some(Act::Hand(number, HandleKind::PipeWrite)),
+            ("write", Some(pipe)) => Some(Act::Write(pipe, behind)),
+            ("end", Some(pipe)) => Some(Act::End(pipe)),
+            ("shut", Some(pipe)) => Some(Act::Shut(pipe)),
+            _ => None,
         }
     }
 
@@ -144,5 +186,10 @@ fn first_word(line: &str) -> (&str, &str) {
 
 // The number that a word names.
 fn number(word: &str) -> Option<u32> {
+    word.parse().ok()
+}
+
+// The number of a handle that a word names.
+fn handle(word: &str) -> Option<i32> {
     word.parse().ok()
 }

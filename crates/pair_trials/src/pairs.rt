@@ -1,14 +1,12 @@
 //! A new pair.
 
+use crate::words::TOKEN;
 use proxy_trail::{PairEnd, PairRecord, Trail};
 use std::alloc::{AllocError, Global};
 use take_half::PeerRecord;
 use wp_outside::Side;
 
-// The session's token.
-const TOKEN: [u8; 16] = *b"of this session.";
-
-/// A pair of proxies to which nothing has happened.
+/// A pair of proxies to which nothing has happened. It is boxed, so that a pointer is what moves.
 pub fn new_pair(alloc: Global) -> Result<Box<PairRecord>, AllocError> {
     let pair = pair_by_value(alloc)?;
     Ok(Box::new(alloc, pair)?)
