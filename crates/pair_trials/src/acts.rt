@@ -1,7 +1,7 @@
 //! What one proxy does, or shows.
 
-use crate::calls::{close, connect, copy_all, end_pipe, hand, note, read_words, say, say_words};
-use crate::calls::{shut_pipe, write_pipe};
+use crate::calls::{close, connect, copy_all, end_pipe, hand, hand_back, note, read_pieces};
+use crate::calls::{read_words, say, say_words, shut_pipe, write_pipe};
 use crate::edges::weigh;
 use crate::image::Image;
 use crate::links::lose;
@@ -10,6 +10,7 @@ use crate::records::show_record;
 use crate::steps::Act;
 use crate::trouble::Trouble;
 use crate::words::{bytes_of, message_of};
+use copy_workers::{CopyDone, copy_one};
 use proxy_trail::Trail;
 use std::alloc::Global;
 use std::io;
@@ -88,6 +89,7 @@ fn do_act(
         Act::Shut(pipe) => shut_pipe(trail, pipe),
         Act::Note => note_image(alloc, trail, image),
         Act::Copies => copy_all(trail),
+        Act::Late(text) => copy_late(alloc, trail, text),
         Act::Close(reason) => close(trail, reason),
         Act::Connect(connection) => connect(trail, connection),
         Act::Break => {
@@ -95,6 +97,7 @@ fn do_act(
             Ok(())
         }
         Act::Read(words) => read_words(alloc, trail, words),
+        Act::Pieces(most, words) => read_pieces(alloc, trail, most, words),
         Act::Lose(most) => lose(alloc, trail, most as usize),
         Act::Weigh(weight) => weigh(alloc, trail, u64::from(weight)),
         _ => Err(Trouble::NoWord),
@@ -109,3 +112,30 @@ fn note_image(alloc: Global, trail: &mut Trail, image: &mut Image) -> Result<(),
     note(alloc, trail, image.share()?)
 }
 
+
+// The next copy is made, something happens to the proxy, and the copy comes back.
+fn copy_late(alloc: Global, trail: &mut Trail, text: &str) -> Result<(), Trouble> {
+    match trail.next_copy() {
+        Some(job) => come_late(alloc, trail, copy_one(job), text),
+        None => Err(Trouble::NotNow),
+    }
+}
+
+// A fault that the proxy meets meanwhile is what it answers to the copy too.
+fn come_late(
+    alloc: Global,
+    trail: &mut Trail,
+    done: CopyDone,
+    text: &str,
+) -> Result<(), Trouble> {
+    let _ = meanwhile(alloc, trail, text);
+    hand_back(trail, done)
+}
+
+fn meanwhile(alloc: Global, trail: &mut Trail, text: &str) -> Result<(), Trouble> {
+    match Act::read(text) {
+        Some(Act::Close(reason)) => close(trail, reason),
+        Some(Act::Read(words)) => read_words(alloc, trail, words),
+        _ => Err(Trouble::NoWord),
+    }
+}

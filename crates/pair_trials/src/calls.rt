@@ -90,7 +90,8 @@ pub fn copy_all(trail: &mut Trail) -> Result<(), Trouble> {
     Ok(())
 }
 
-fn hand_back(trail: &mut Trail, done: CopyDone) -> Result<(), Trouble> {
+/// A copy comes back.
+pub fn hand_back(trail: &mut Trail, done: CopyDone) -> Result<(), Trouble> {
     if !trail.awaits(&done) {
         return Err(Trouble::NotNow);
     }
@@ -117,6 +118,20 @@ pub fn read(trail: &mut Trail, piece: &[u8]) -> Result<(), Trouble> {
 pub fn read_words(alloc: Global, trail: &mut Trail, words: &str) -> Result<(), Trouble> {
     let piece = bytes_of(alloc, 1, words)?;
     read(trail, piece.as_slice())
+}
+
+/// The bytes of a row of words come in pieces of at most so many bytes.
+pub fn read_pieces(
+    alloc: Global,
+    trail: &mut Trail,
+    most: u32,
+    words: &str,
+) -> Result<(), Trouble> {
+    let bytes = bytes_of(alloc, 1, words)?;
+    for piece in bytes.as_slice().chunks((most as usize).max(1)) {
+        read(trail, piece)?;
+    }
+    Ok(())
 }
 
 /// So many of the bytes that were lent are written.

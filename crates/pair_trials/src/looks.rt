@@ -6,6 +6,7 @@ use pair_report::{ReportOptions, report};
 use proxy_trail::{PairRecord, Trail};
 use std::alloc::Global;
 use std::io;
+use wp_outside::PipeItem;
 
 /// Prints bytes in hexadecimal, behind words.
 pub fn show_bytes<R: Print>(rt: &R, alloc: Global, words: &str, bytes: &[u8]) -> io::Result<()> {
@@ -61,12 +62,23 @@ fn show_item<R: Print>(rt: &R, alloc: Global, item: &PeerOut) -> io::Result<()> 
             print!(rt; "filled {rid} from {start} ")?;
             show_bytes(rt, alloc, "with", bytes.as_slice())
         }
-        PeerOut::Pipe(_) => println!(rt; "an item of a pipe"),
+        PeerOut::Pipe(item) => show_pipe(rt, alloc, item),
         PeerOut::Receipt {
             number,
             segment,
             ..
         } => println!(rt; "receipt {number} segment {segment}"),
+    }
+}
+
+fn show_pipe<R: Print>(rt: &R, alloc: Global, item: &PipeItem) -> io::Result<()> {
+    match item {
+        PipeItem::Bytes { pipe, bytes } => {
+            print!(rt; "pipe {pipe} ")?;
+            show_bytes(rt, alloc, "bytes", bytes.as_slice())
+        }
+        PipeItem::End { pipe } => println!(rt; "pipe {pipe} ended"),
+        PipeItem::Shut { pipe } => println!(rt; "pipe {pipe} shut"),
     }
 }
 

@@ -14,7 +14,6 @@ mod pairs;
 mod peers;
 mod records;
 mod rows;
-mod speed;
 mod steps;
 mod trouble;
 mod words;

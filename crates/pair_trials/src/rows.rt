@@ -3,11 +3,10 @@
 use crate::acts::{act_far, act_near, told};
 use crate::cuts::cuts;
 use crate::image::Image;
-use crate::links::{break_both, carry, connect_both, settle};
+use crate::links::{MOST_CARRIED, break_both, carry, connect_both, settle};
 use crate::looks::{show_audit, show_report};
 use crate::pairs::new_pair;
 use crate::peers::give_both;
-use crate::speed::messages_carried;
 use crate::steps::Step;
 use crate::trouble::Trouble;
 use proxy_trail::{PairRecord, Trail};
@@ -66,7 +65,6 @@ fn play_line<R: Print>(
         Some(Step::Audit) => show_audit(rt, &pair.near, &pair.far),
         Some(Step::Report(options)) => show_report(rt, alloc, options, pair),
         Some(Step::Cuts) => show_cuts(rt, alloc),
-        Some(Step::Messages(count, times)) => show_speed(rt, alloc, count, times),
         Some(Step::Fill(value)) => told(rt, line, image.fill(u64::from(value))),
         Some(step) => told(rt, line, do_step(alloc, pair, step)),
         None => println!(rt; "{line}: no step"),
@@ -82,7 +80,7 @@ fn do_step(alloc: Global, pair: &mut PairRecord, step: Step<'_>) -> Result<(), T
         }
         Step::Up(most) => move_bytes(alloc, &mut pair.near, &mut pair.far, most),
         Step::Down(most) => move_bytes(alloc, &mut pair.far, &mut pair.near, most),
-        Step::Settle => settle(alloc, &mut pair.near, &mut pair.far),
+        Step::Settle => settle(alloc, &mut pair.near, &mut pair.far, MOST_CARRIED),
         Step::Give => Ok(give_both(pair)?),
         _ => Err(Trouble::NoWord),
     }
@@ -103,12 +101,5 @@ fn show_cuts<R: Print>(rt: &R, alloc: Global) -> io::Result<()> {
     match cuts(alloc) {
         Ok(count) => println!(rt; "cuts {count}"),
         Err(trouble) => println!(rt; "cuts: {trouble:?}"),
-    }
-}
-
-fn show_speed<R: Print>(rt: &R, alloc: Global, count: u32, times: u32) -> io::Result<()> {
-    match messages_carried(alloc, count, times) {
-        Ok(count) => println!(rt; "messages {count}"),
-        Err(trouble) => println!(rt; "messages: {trouble:?}"),
     }
 }

@@ -26,8 +26,6 @@ pub enum Step<'a> {
     Report(ReportOptions),
     /// A small session is cut behind each of its bytes.
     Cuts,
-    /// Pieces of so many messages are carried so many times.
-    Messages(u32, u32),
 }
 
 /// What one proxy does, or shows.
@@ -43,15 +41,17 @@ pub enum Act<'a> {
     Write(i32, &'a str),
     End(i32),
     Shut(i32),
-    /// Its copies are made.
+    /// Its copies are made; one is made, and something happens before it comes back.
     Copies,
+    Late(&'a str),
     /// It is asked to close.
     Close(u32),
     /// A connection comes up on its side alone, and goes down.
     Connect(u32),
     Break,
-    /// A piece comes to it.
+    /// Bytes come to it, in one piece or in pieces of at most so many bytes.
     Read(&'a str),
+    Pieces(u32, &'a str),
     /// It writes at most so many bytes, which are lost.
     Lose(u32),
     /// Its record grows until it weighs so much.
@@ -83,7 +83,6 @@ impl<'a> Step<'a> {
             ("give", _) => Some(Step::Give),
             ("report", _) => report_of(rest),
             ("cuts", _) => Some(Step::Cuts),
-            ("messages", _) => messages(rest),
             _ => None,
         }
     }
@@ -114,23 +113,17 @@ fn got(name: &str) -> Option<Got> {
     }
 }
 
-fn messages(rest: &str) -> Option<Step<'_>> {
-    let (count, times) = first_word(rest);
-    match (number(count), number(times)) {
-        (Some(count), Some(times)) => Some(Step::Messages(count, times)),
-        _ => None,
-    }
-}
-
 impl<'a> Act<'a> {
-    fn read(line: &'a str) -> Option<Act<'a>> {
+    /// What the words behind a side's name say; None where they say nothing.
+    pub fn read(line: &'a str) -> Option<Act<'a>> {
         let (name, rest) = first_word(line);
         match (name, number(rest)) {
             ("say", _) => Some(Act::Say(1, rest)),
             ("tell", _) => Some(Act::Tell(rest)),
-            ("repeat", _) => repeat(rest),
+            ("repeat" | "pieces", _) => Act::with_number(name, rest),
             ("note", _) => Some(Act::Note),
             ("copies", _) => Some(Act::Copies),
+            ("late", _) => Some(Act::Late(rest)),
             ("close", Some(reason)) => Some(Act::Close(reason)),
             ("connect", Some(connection)) => Some(Act::Connect(connection)),
             ("break", _) => Some(Act::Break),
@@ -139,6 +132,16 @@ impl<'a> Act<'a> {
             ("weigh", Some(weight)) => Some(Act::Weigh(weight)),
             ("file" | "pipe" | "write" | "end" | "shut", _) => Act::on_handle(name, rest),
             _ => Act::look(name),
+        }
+    }
+
+    // What is done with a number, and the words behind it.
+    fn with_number(name: &str, rest: &'a str) -> Option<Act<'a>> {
+        let (word, behind) = first_word(rest);
+        match (name, number(word)) {
+            ("repeat", Some(times)) => Some(Act::Say(times, behind)),
+            ("pieces", Some(most)) => Some(Act::Pieces(most, behind)),
+            _ => None,
         }
     }
 
@@ -165,14 +168,6 @@ impl<'a> Act<'a> {
             "record" => Some(Act::Record),
             _ => None,
         }
-    }
-}
-
-fn repeat(rest: &str) -> Option<Act<'_>> {
-    let (times, words) = first_word(rest);
-    match number(times) {
-        Some(times) => Some(Act::Say(times, words)),
-        None => None,
     }
 }
 

@@ -102,9 +102,11 @@ const WORDS: [(&str, &[u8]); 32] = [
 
 /// The bytes of a row of words, one behind the other, so many times.
 pub fn bytes_of(alloc: Global, times: u32, words: &str) -> Result<Bytes, Trouble> {
+    let mut row = Bytes::new(alloc);
+    add_all(alloc, &mut row, words)?;
     let mut bytes = Bytes::new(alloc);
     for _ in 0..times {
-        add_all(alloc, &mut bytes, words)?;
+        bytes.append(row.as_slice())?;
     }
     Ok(bytes)
 }
