@@ -137,3 +137,6 @@ impl Sender {
         noted(&mut self.half)
     }
 }
+
+/// Lets a sender go: the one place where the proof follows what it owns.
+pub fn let_go(_sender: Sender) {}

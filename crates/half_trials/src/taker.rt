@@ -75,3 +75,6 @@ fn is_receipt(item: &PeerOut) -> bool
 {
     matches!(item, PeerOut::Receipt { .. })
 }
+
+/// Lets a taker go: the one place where the proof follows what it owns.
+pub fn let_go(_taker: Taker) {}
