@@ -2,7 +2,7 @@
 
 use crate::acts::{act_far, act_near, told};
 use crate::cuts::cuts;
-use crate::image::Image;
+use crate::image::Images;
 use crate::links::{MOST_CARRIED, break_both, carry, connect_both, settle};
 use crate::looks::{show_audit, show_report};
 use crate::pairs::new_pair;
@@ -29,8 +29,8 @@ fn play_pair<R: Print>(
     pair: &mut PairRecord,
     row: &str,
 ) -> io::Result<()> {
-    match Image::new(alloc) {
-        Ok(mut image) => play_lines(rt, alloc, pair, &mut image, row),
+    match Images::new(alloc) {
+        Ok(mut images) => play_lines(rt, alloc, pair, &mut images, row),
         Err(_) => println!(rt; "no memory"),
     }
 }
@@ -39,14 +39,14 @@ fn play_lines<R: Print>(
     rt: &R,
     alloc: Global,
     pair: &mut PairRecord,
-    image: &mut Image,
+    images: &mut Images,
     row: &str,
 ) -> io::Result<()> {
     for line in row.lines() {
         if line.starts_with('#') {
             println!(rt; "{line}")?;
         } else {
-            play_line(rt, alloc, pair, image, line)?;
+            play_line(rt, alloc, pair, images, line)?;
         }
     }
     Ok(())
@@ -56,16 +56,16 @@ fn play_line<R: Print>(
     rt: &R,
     alloc: Global,
     pair: &mut PairRecord,
-    image: &mut Image,
+    images: &mut Images,
     line: &str,
 ) -> io::Result<()> {
     match Step::read(line) {
-        Some(Step::Of(Side::Near, act)) => act_near(rt, alloc, &mut pair.near, image, line, act),
-        Some(Step::Of(Side::Far, act)) => act_far(rt, alloc, &mut pair.far, image, line, act),
+        Some(Step::Of(Side::Near, act)) => act_near(rt, alloc, &mut pair.near, &mut images.near, line, act),
+        Some(Step::Of(Side::Far, act)) => act_far(rt, alloc, &mut pair.far, &mut images.far, line, act),
         Some(Step::Audit) => show_audit(rt, &pair.near, &pair.far),
         Some(Step::Report(options)) => show_report(rt, alloc, options, pair),
         Some(Step::Cuts) => show_cuts(rt, alloc),
-        Some(Step::Fill(value)) => told(rt, line, image.fill(u64::from(value))),
+        Some(Step::Fill(value)) => told(rt, line, images.fill(value)),
         Some(step) => told(rt, line, do_step(alloc, pair, step)),
         None => println!(rt; "{line}: no step"),
     }

@@ -16,8 +16,8 @@ pub enum Step<'a> {
     Down(u32),
     /// All bytes are carried, both ways.
     Settle,
-    /// All words of the application's file get a value.
-    Fill(u32),
+    /// All words of both files get a value.
+    Fill(u64),
     /// Both records are compared.
     Audit,
     /// The peers are given what there is for them.
@@ -78,7 +78,7 @@ impl<'a> Step<'a> {
             ("up", Some(most)) => Some(Step::Up(most)),
             ("down", Some(most)) => Some(Step::Down(most)),
             ("settle", _) => Some(Step::Settle),
-            ("fill", Some(value)) => Some(Step::Fill(value)),
+            ("fill", _) => fill(rest),
             ("audit", _) => Some(Step::Audit),
             ("give", _) => Some(Step::Give),
             ("report", _) => report_of(rest),
@@ -92,6 +92,13 @@ fn of_side(side: Side, rest: &str) -> Option<Step<'_>> {
     match Act::read(rest) {
         Some(act) => Some(Step::Of(side, act)),
         None => None,
+    }
+}
+
+fn fill(word: &str) -> Option<Step<'_>> {
+    match word.parse() {
+        Ok(value) => Some(Step::Fill(value)),
+        Err(_) => None,
     }
 }
 
