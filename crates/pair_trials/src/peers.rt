@@ -5,10 +5,14 @@ use proxy_trail::{PairRecord, Trail};
 use std::alloc::AllocError;
 use take_half::PeerRecord;
 
-// Takes an item in; receipts are let go.
+// Takes an item in; a receipt is one that was settled.
 fn take(peer: &mut PeerRecord, item: PeerOut) -> Result<(), AllocError> {
     match item {
-        PeerOut::Receipt { .. } => Ok(()),
+        PeerOut::Receipt {
+            number,
+            segment,
+            ..
+        } => peer.settled(number, segment),
         other => peer.take(other),
     }
 }
