@@ -143,8 +143,8 @@ fn count_frames(sender: &mut Sender) -> u64 {
     frames
 }
 
-/// Takes the receipts and the notes.
-pub fn drop_records(sender: &mut Sender) {
+// Takes the receipts and the notes.
+fn drop_records(sender: &mut Sender) {
     for _ in 0..u64::MAX {
         if sender.next_receipt().is_none() && sender.noted().is_none() {
             break;

@@ -19,10 +19,10 @@ use wp_outside::Side;
 #[derive(Drop)]
 pub struct Taker {
     half: TakeHalf,
-    pub(crate) objects: Objects,
+    objects: Objects,
     handles: Handles,
-    pub(crate) pipes: Pipes,
-    pub(crate) peer: PeerRecord,
+    pipes: Pipes,
+    peer: PeerRecord,
     ghost one_side: { handles.side ≡ half.side },
 }
 
@@ -62,11 +62,6 @@ impl Taker {
             return Ok(());
         }
         self.peer.take(item)
-    }
-
-    /// Whether the peer was given the write end of this pipe.
-    pub fn holds(&self, rid: i32) -> bool {
-        self.half.holds(rid)
     }
 }
 
