@@ -1,7 +1,9 @@
 //! What one proxy does, or shows.
 
-use crate::calls::{close, connect, copy_all, end_pipe, hand, hand_back, note, read_pieces};
-use crate::calls::{read_words, say, say_words, shut_pipe, write_pipe};
+use crate::calls::{
+    close, connect, copy_all, end_pipe, hand, hand_back, note, read_pieces, read_words, say,
+    say_words, shut_pipe, write_pipe,
+};
 use crate::edges::weigh;
 use crate::image::Image;
 use crate::links::lose;
@@ -112,7 +114,6 @@ fn note_image(alloc: Global, trail: &mut Trail, image: &mut Image) -> Result<(),
     note(alloc, trail, image.share()?)
 }
 
-
 // The next copy is made, something happens to the proxy, and the copy comes back.
 fn copy_late(alloc: Global, trail: &mut Trail, text: &str) -> Result<(), Trouble> {
     match trail.next_copy() {
@@ -122,12 +123,7 @@ fn copy_late(alloc: Global, trail: &mut Trail, text: &str) -> Result<(), Trouble
 }
 
 // A fault that the proxy meets meanwhile is what it answers to the copy too.
-fn come_late(
-    alloc: Global,
-    trail: &mut Trail,
-    done: CopyDone,
-    text: &str,
-) -> Result<(), Trouble> {
+fn come_late(alloc: Global, trail: &mut Trail, done: CopyDone, text: &str) -> Result<(), Trouble> {
     let _ = meanwhile(alloc, trail, text);
     hand_back(trail, done)
 }

@@ -1,6 +1,6 @@
-//! Drives two proxies with their records and their peers, back to back, by the rows of its input, and prints what
-//! came. A row is a few lines with an empty line behind it, and begins with two new proxies. It is
-//! no part of the program.
+//! Drives two proxies with their records and their peers, back to back, by the rows of its input,
+//! and prints what came. A row is a few lines with an empty line behind it, and begins with two new
+//! proxies. It is no part of the program.
 #![tactic(auto)]
 
 mod acts;

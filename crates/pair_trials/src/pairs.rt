@@ -20,7 +20,10 @@ fn pair_by_value(alloc: Global) -> Result<PairRecord, AllocError> {
 fn pair_with(alloc: Global, near: Trail) -> Result<PairRecord, AllocError> {
     match Trail::new(alloc, Side::Far, TOKEN) {
         Ok(far) => Ok(pair_of(alloc, near, far)),
-        Err(error) => Err(error),
+        Err(error) => {
+            drop(near);
+            Err(error)
+        }
     }
 }
 

@@ -23,12 +23,7 @@ pub fn play<R: Print>(rt: &R, alloc: Global, row: &str) -> io::Result<()> {
     }
 }
 
-fn play_pair<R: Print>(
-    rt: &R,
-    alloc: Global,
-    pair: &mut PairRecord,
-    row: &str,
-) -> io::Result<()> {
+fn play_pair<R: Print>(rt: &R, alloc: Global, pair: &mut PairRecord, row: &str) -> io::Result<()> {
     match Images::new(alloc) {
         Ok(mut images) => play_lines(rt, alloc, pair, &mut images, row),
         Err(_) => println!(rt; "no memory"),
@@ -60,8 +55,22 @@ fn play_line<R: Print>(
     line: &str,
 ) -> io::Result<()> {
     match Step::read(line) {
-        Some(Step::Of(Side::Near, act)) => act_near(rt, alloc, &mut pair.near, &mut images.near, line, act),
-        Some(Step::Of(Side::Far, act)) => act_far(rt, alloc, &mut pair.far, &mut images.far, line, act),
+        Some(Step::Of(Side::Near, act)) => act_near(
+            rt,
+            alloc,
+            &mut pair.near,
+            &mut images.near,
+            line,
+            act,
+        ),
+        Some(Step::Of(Side::Far, act)) => act_far(
+            rt,
+            alloc,
+            &mut pair.far,
+            &mut images.far,
+            line,
+            act,
+        ),
         Some(Step::Audit) => show_audit(rt, &pair.near, &pair.far),
         Some(Step::Report(options)) => show_report(rt, alloc, options, pair),
         Some(Step::Cuts) => show_cuts(rt, alloc),
