@@ -5,10 +5,12 @@ ghost use Rattle.pair_runs.specs.Moves.{Connect, ConnectIfHeld, Break, Push, Pul
 ghost use Rattle.script_replay.specs.Going.{IfStops, Goes};
 ghost use Rattle.script_replay.specs.Standing.{IsReady};
 
-use crate::failures::Stop;
+use crate::coming::pull_bytes;
+use crate::failures::{Stop, stop_by};
 use crate::run::Run;
+use crate::sending::push_bytes;
 use script_sides::laws::ready_goes_on;
-use wp_outside::{Direction, LinkStore};
+use wp_outside::{Direction, LinkStore, Side};
 
 impl Run {
     /// Makes the next connection, unless one is up.
@@ -17,8 +19,11 @@ impl Run {
         ensures { IfStops result (Goes (Connect ∷ [])
             self.old self.new (L.line line.old) (L.line line.new)) }
     {
-        let _line = line;
-        Err(Stop::Memory)
+        ready_goes_on();
+        if self.up {
+            return Ok(());
+        }
+        self.connect_next(line)
     }
 
     /// Makes the next connection, where a side keeps a frame and none is up.
@@ -27,8 +32,12 @@ impl Run {
         ensures { IfStops result (Goes (ConnectIfHeld ∷ [])
             self.old self.new (L.line line.old) (L.line line.new)) }
     {
-        let _line = line;
-        Err(Stop::Memory)
+        ready_goes_on();
+        if self.near.holds() || self.far.holds() {
+            self.connect(line)
+        } else {
+            Ok(())
+        }
     }
 
     /// Makes the next connection, where none is up.
@@ -38,8 +47,22 @@ impl Run {
         ensures { IfStops result (Goes (Connect ∷ [])
             self.old self.new (L.line line.old) (L.line line.new)) }
     {
-        let _line = line;
-        Err(Stop::Memory)
+        ready_goes_on();
+        let next = self.last + 1;
+        match self.near.link_up(next) {
+            Ok(()) => match self.far.link_up(next) {
+                Ok(()) => match line.open(next) {
+                    Ok(()) => {
+                        self.last = next;
+                        self.up = true;
+                        Ok(())
+                    }
+                    Err(_) => Err(Stop::Memory),
+                },
+                Err(fault) => Err(stop_by(Side::Far, fault)),
+            },
+            Err(fault) => Err(stop_by(Side::Near, fault)),
+        }
     }
 
     /// Ends the connection, if one is up, with all that waits on it.
@@ -67,10 +90,20 @@ impl Run {
         ensures { IfStops result (Goes (Push dir most ∷ [])
             self.old self.new (L.line line.old) (L.line line.new)) }
     {
-        let _dir = dir;
-        let _most = most;
-        let _line = line;
-        Err(Stop::Memory)
+        ready_goes_on();
+        if !self.up {
+            return Ok(());
+        }
+        match dir {
+            Direction::Up => match push_bytes(&mut self.near, dir, most, self.last, line) {
+                Ok(()) => Ok(()),
+                Err(fault) => Err(stop_by(Side::Near, fault)),
+            },
+            Direction::Down => match push_bytes(&mut self.far, dir, most, self.last, line) {
+                Ok(()) => Ok(()),
+                Err(fault) => Err(stop_by(Side::Far, fault)),
+            },
+        }
     }
 
     /// Pulls up to so many bytes out of one direction, if a connection is up. The room is for what
@@ -87,11 +120,20 @@ impl Run {
         ensures { IfStops result (Goes (Pull dir most ∷ [])
             self.old self.new (L.line line.old) (L.line line.new)) }
     {
-        let _dir = dir;
-        let _most = most;
-        let _line = line;
-        let _room = room;
-        Err(Stop::Memory)
+        ready_goes_on();
+        if !self.up {
+            return Ok(());
+        }
+        match dir {
+            Direction::Up => match pull_bytes(&mut self.far, dir, most, self.last, line, room) {
+                Ok(()) => Ok(()),
+                Err(fault) => Err(stop_by(Side::Far, fault)),
+            },
+            Direction::Down => match pull_bytes(&mut self.near, dir, most, self.last, line, room) {
+                Ok(()) => Ok(()),
+                Err(fault) => Err(stop_by(Side::Near, fault)),
+            },
+        }
     }
 
     /// Replaces a byte that waits in one direction, if so many wait on a connection that is up.
