@@ -1,7 +1,7 @@
 //! Frames of whole images that a taking half takes, for a peer that receives what they mean.
 
 use crate::requests::{COMMIT, DAMAGE, SURFACE};
-use crate::taker::Taker;
+use crate::taker::{Taker, let_go};
 use half_model::{FrameList, TakeFault};
 use std::alloc::{AllocError, Global};
 use transfer_frames::Frame;
@@ -17,9 +17,15 @@ const MOST_FILLED: usize = 1_048_512;
 /// Gives a peer a whole image of so many bytes so many times, by its frames, and answers how many
 /// of these were taken; 0 where a file can't have so many bytes.
 pub fn images_taken(alloc: Global, bytes: u32, times: u32) -> Result<u64, AllocError> {
-    let mut taker = Taker::new(alloc, Side::Far)?;
     let image = vec![in alloc; 7u8; bytes as usize]?;
-    take_images(alloc, &mut taker, image.as_slice(), times)
+    take_image(alloc, image.as_slice(), times)
+}
+
+fn take_image(alloc: Global, image: &[u8], times: u32) -> Result<u64, AllocError> {
+    let mut taker = Taker::new(alloc, Side::Far)?;
+    let answer = take_images(alloc, &mut taker, image, times);
+    let_go(taker);
+    answer
 }
 
 /// Makes the frames of a whole image of so many bytes so many times, which nobody takes, and

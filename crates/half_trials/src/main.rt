@@ -1,6 +1,5 @@
-//! Drives the two halves of a proxy by their public calls. Its tests compare what the halves make
-//! with rows written by hand; its lines of input have work done many times over, so that a script
-//! can measure it. It is no part of the program.
+//! Drives the two halves of a proxy by their public calls: the lines of its input have work done
+//! many times over, so that a script can measure it. It is no part of the program.
 #![tactic(auto)]
 
 mod calls;
@@ -13,9 +12,6 @@ mod taker;
 
 use jobs::Job;
 use std::io;
-
-#[cfg(test)]
-mod tests;
 
 // What a line may be.
 const WANTED: &str = "messages or pictures COUNT TIMES, or images or untaken BYTES TIMES";

@@ -21,9 +21,8 @@ use wp_outside::Side;
 /// A sending half, the tables of its side, and for what it has failed.
 #[derive(Drop)]
 pub struct Sender {
-    side: Side,
     half: SendHalf,
-    pub(crate) objects: Objects,
+    objects: Objects,
     handles: Handles,
     pipes: Pipes,
     fault: Option<HalfFault>,
@@ -37,23 +36,12 @@ impl Sender {
         let objects = Objects::new(alloc)?;
         let half = new_sending(alloc, side)?;
         Ok(Sender {
-            side,
             half,
             objects,
             handles: no_handles(alloc, side),
             pipes: Pipes::new(alloc, side),
             fault: None,
         })
-    }
-
-    /// The side of the half's peer.
-    pub fn side(&self) -> Side {
-        self.side
-    }
-
-    /// For what the half has failed.
-    pub fn fault(&self) -> Option<HalfFault> {
-        self.fault
     }
 
     /// Takes what the peer puts on its wire.
@@ -137,3 +125,6 @@ impl Sender {
         noted(&mut self.half)
     }
 }
+
+/// Lets a sender go: the one place where the proof follows what it owns.
+pub fn let_go(_sender: Sender) {}

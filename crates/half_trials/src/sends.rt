@@ -1,7 +1,7 @@
 //! Messages and whole images that a sending half makes frames of.
 
 use crate::requests::{BUFFER, COMMIT, DAMAGE, SURFACE};
-use crate::sender::Sender;
+use crate::sender::{Sender, let_go};
 use half_model::{HalfFault, PeerIn};
 use handle_table::Handle;
 use shm_pools::{FileEyesList, FilePen, Note};
@@ -16,14 +16,22 @@ const IMAGE: u32 = 1_228_800;
 /// made.
 pub fn messages_sent(alloc: Global, count: u32, times: u32) -> Result<u64, AllocError> {
     let mut sender = Sender::new(alloc, Side::Near)?;
-    send_messages(alloc, &mut sender, count, times)
+    let answer = send_messages(alloc, &mut sender, count, times);
+    let_go(sender);
+    answer
 }
 
 /// Sends a whole image so many times, damaged and committed, and answers how many frames were made.
 pub fn images_sent(alloc: Global, times: u32) -> Result<u64, AllocError> {
     let mut pen = FilePen::new(alloc, 1, IMAGE)?;
+    send_from(alloc, &mut pen, times)
+}
+
+fn send_from(alloc: Global, pen: &mut FilePen, times: u32) -> Result<u64, AllocError> {
     let mut sender = Sender::new(alloc, Side::Near)?;
-    send_images(alloc, &mut sender, &mut pen, times)
+    let answer = send_images(alloc, &mut sender, pen, times);
+    let_go(sender);
+    answer
 }
 
 fn send_messages(
@@ -135,8 +143,8 @@ fn count_frames(sender: &mut Sender) -> u64 {
     frames
 }
 
-/// Takes the receipts and the notes.
-pub fn drop_records(sender: &mut Sender) {
+// Takes the receipts and the notes.
+fn drop_records(sender: &mut Sender) {
     for _ in 0..u64::MAX {
         if sender.next_receipt().is_none() && sender.noted().is_none() {
             break;

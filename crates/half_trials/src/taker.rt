@@ -19,10 +19,10 @@ use wp_outside::Side;
 #[derive(Drop)]
 pub struct Taker {
     half: TakeHalf,
-    pub(crate) objects: Objects,
+    objects: Objects,
     handles: Handles,
-    pub(crate) pipes: Pipes,
-    pub(crate) peer: PeerRecord,
+    pipes: Pipes,
+    peer: PeerRecord,
     ghost one_side: { handles.side ≡ half.side },
 }
 
@@ -63,11 +63,6 @@ impl Taker {
         }
         self.peer.take(item)
     }
-
-    /// Whether the peer was given the write end of this pipe.
-    pub fn holds(&self, rid: i32) -> bool {
-        self.half.holds(rid)
-    }
 }
 
 fn is_receipt(item: &PeerOut) -> bool
@@ -75,3 +70,6 @@ fn is_receipt(item: &PeerOut) -> bool
 {
     matches!(item, PeerOut::Receipt { .. })
 }
+
+/// Lets a taker go: the one place where the proof follows what it owns.
+pub fn let_go(_taker: Taker) {}

@@ -20,7 +20,7 @@ sizes_after_write f word v =
 -- whether it is written or refused
 pub kept_sizes : {E : Type 0} (r : Result (Unit {0}) E) (f g : FileState) (word v : ℕ)
     → OnOk r (g ≡ after_write f word v) → OnErr r (g ≡ f)
-    → sum (pen_sizes f.segments) ≡ 8 → sum (pen_sizes g.segments) ≡ 8
+    → sum (pen_sizes f.segments) ≡ 16 → sum (pen_sizes g.segments) ≡ 16
 kept_sizes (Ok _) f g word v ok err sized =
     ap (λ (s : FileState). sum (pen_sizes s.segments)) ok
     ∙ ap (λ (sizes : List ℕ). sum sizes) (sizes_after_write f word v) ∙ sized

@@ -9,7 +9,7 @@ use proxy_trail::Trail;
 use shm_pools::{FileEyes, FileEyesList, Note};
 use std::alloc::Global;
 use wl_wire::Bytes;
-use wp_outside::HandleKind;
+use wp_outside::{HandleKind, PipeItem};
 
 // The most bytes that a peer puts on its wire at once.
 const MOST_PIECE: usize = 65_536;
@@ -28,27 +28,39 @@ pub fn say_words(alloc: Global, trail: &mut Trail, times: u32, words: &str) -> R
     say(trail, bytes_of(alloc, times, words)?)
 }
 
-/// The peer puts the handle of a file on its wire.
-pub fn hand_file(trail: &mut Trail, number: u32) -> Result<(), Trouble> {
-    match i32::try_from(number) {
-        Ok(number) => hand(trail, number, HandleKind::File),
-        Err(_) => Err(Trouble::NoWord),
-    }
-}
-
-/// The peer puts the handle of a pipe's write end on its wire; its number is below 0.
-pub fn hand_pipe(trail: &mut Trail, number: u32) -> Result<(), Trouble> {
-    match i32::try_from(number) {
-        Ok(number) => hand(trail, number.wrapping_neg(), HandleKind::PipeWrite),
-        Err(_) => Err(Trouble::NoWord),
-    }
-}
-
-fn hand(trail: &mut Trail, number: i32, kind: HandleKind) -> Result<(), Trouble> {
+/// The peer puts a handle on its wire.
+pub fn hand(trail: &mut Trail, number: i32, kind: HandleKind) -> Result<(), Trouble> {
     if !trail.wants_peer() {
         return Err(Trouble::NotNow);
     }
     trail.feed_peer(PeerIn::Handle(Handle { number, kind }))?;
+    Ok(())
+}
+
+/// The peer writes to a pipe.
+pub fn write_pipe(trail: &mut Trail, pipe: i32, bytes: Bytes) -> Result<(), Trouble> {
+    if !trail.wants_peer() || bytes.is_empty() || bytes.len() > MOST_PIECE {
+        return Err(Trouble::NotNow);
+    }
+    trail.feed_peer(PeerIn::Pipe(PipeItem::Bytes { pipe, bytes }))?;
+    Ok(())
+}
+
+/// The peer closes the write end of a pipe.
+pub fn end_pipe(trail: &mut Trail, pipe: i32) -> Result<(), Trouble> {
+    if !trail.wants_peer() {
+        return Err(Trouble::NotNow);
+    }
+    trail.feed_peer(PeerIn::Pipe(PipeItem::End { pipe }))?;
+    Ok(())
+}
+
+/// The peer closes the reading end of a pipe.
+pub fn shut_pipe(trail: &mut Trail, pipe: i32) -> Result<(), Trouble> {
+    if !trail.wants_peer() {
+        return Err(Trouble::NotNow);
+    }
+    trail.feed_peer(PeerIn::Pipe(PipeItem::Shut { pipe }))?;
     Ok(())
 }
 
@@ -78,7 +90,8 @@ pub fn copy_all(trail: &mut Trail) -> Result<(), Trouble> {
     Ok(())
 }
 
-fn hand_back(trail: &mut Trail, done: CopyDone) -> Result<(), Trouble> {
+/// A copy comes back.
+pub fn hand_back(trail: &mut Trail, done: CopyDone) -> Result<(), Trouble> {
     if !trail.awaits(&done) {
         return Err(Trouble::NotNow);
     }
@@ -105,6 +118,20 @@ pub fn read(trail: &mut Trail, piece: &[u8]) -> Result<(), Trouble> {
 pub fn read_words(alloc: Global, trail: &mut Trail, words: &str) -> Result<(), Trouble> {
     let piece = bytes_of(alloc, 1, words)?;
     read(trail, piece.as_slice())
+}
+
+/// The bytes of a row of words come in pieces of at most so many bytes.
+pub fn read_pieces(
+    alloc: Global,
+    trail: &mut Trail,
+    most: u32,
+    words: &str,
+) -> Result<(), Trouble> {
+    let bytes = bytes_of(alloc, 1, words)?;
+    for piece in bytes.as_slice().chunks((most as usize).max(1)) {
+        read(trail, piece)?;
+    }
+    Ok(())
 }
 
 /// So many of the bytes that were lent are written.

@@ -2,16 +2,23 @@
 
 use crate::calls::say_words;
 use crate::links::{break_both, carry, connect_both, settle};
+use crate::pairs::new_pair;
 use crate::trouble::Trouble;
-use crate::words::TOKEN;
+use crate::words::bytes_of;
+use half_model::PeerOut;
 use pair_audit::audit;
-use proxy_trail::Trail;
+use proxy_trail::{PairRecord, Trail};
 use std::alloc::Global;
-use wp_outside::Side;
+use wl_wire::Bytes;
 
-// Each side writes RESTART, of 32 bytes, a frame of 16 bytes and an ACK of 12; a byte of each side
-// goes over the link in turn. Some moves more change nothing.
-const MOST_MOVES: u32 = 130;
+// Each side writes RESTART, of 32 bytes, three frames of 16 bytes and ACKs of 12; a byte of each
+// side goes over the link in turn. Some moves more change nothing.
+const MOST_MOVES: u32 = 250;
+
+// What the application and the compositor say.
+const REQUESTS: &str = "sync-2 sync-3 sync-8";
+
+const EVENTS: &str = "delete-12 delete-13 delete-14";
 
 /// Cuts the link behind each number of moves, and answers behind how many of them all was right.
 pub fn cuts(alloc: Global) -> Result<u32, Trouble> {
@@ -25,29 +32,21 @@ pub fn cuts(alloc: Global) -> Result<u32, Trouble> {
 }
 
 fn is_right(alloc: Global, moves: u32) -> Result<bool, Trouble> {
-    let mut near = Trail::new(alloc, Side::Near, TOKEN)?;
-    with_near(alloc, &mut near, moves)
+    let mut pair = new_pair(alloc)?;
+    go_through(alloc, &mut pair, moves)
 }
 
-fn with_near(alloc: Global, near: &mut Trail, moves: u32) -> Result<bool, Trouble> {
-    let mut far = Trail::new(alloc, Side::Far, TOKEN)?;
-    go_through(alloc, near, &mut far, moves)
-}
-
-fn go_through(
-    alloc: Global,
-    near: &mut Trail,
-    far: &mut Trail,
-    moves: u32,
-) -> Result<bool, Trouble> {
-    say_words(alloc, near, 1, "sync-2")?;
-    say_words(alloc, far, 1, "delete-12")?;
+fn go_through(alloc: Global, pair: &mut PairRecord, moves: u32) -> Result<bool, Trouble> {
+    let (near, far) = (&mut pair.near, &mut pair.far);
+    say_words(alloc, near, 1, REQUESTS)?;
+    say_words(alloc, far, 1, EVENTS)?;
     connect_both(near, far, 1)?;
     carry_bytes(alloc, near, far, moves)?;
     break_both(near, far);
     connect_both(near, far, 2)?;
-    settle(alloc, near, far)?;
-    Ok(gives_one(near) && gives_one(far) && audit(near, far).is_ok())
+    settle(alloc, near, far, 7)?;
+    let is_given = gives(alloc, near, EVENTS)? && gives(alloc, far, REQUESTS)?;
+    Ok(is_given && has_all(near) && has_all(far) && audit(near, far).is_ok())
 }
 
 fn carry_bytes(
@@ -66,12 +65,27 @@ fn carry_bytes(
     Ok(())
 }
 
-// The other side's frame was accepted once and its message is given once, and the own frame is
-// acknowledged.
-fn gives_one(trail: &mut Trail) -> bool {
-    trail.accepted() == 1
-        && trail.acknowledged() == 1
-        && trail.peer_out().is_some()
-        && trail.peer_out().is_none()
-        && trail.record().given == 1
+// The other side's frames were accepted once, their messages were given once, and the own frames
+// are acknowledged.
+fn has_all(trail: &Trail) -> bool {
+    trail.accepted() == 3 && trail.acknowledged() == 3 && trail.record().given == 3
+}
+
+// Gives its peer all that waits, and answers whether that is the messages of a row of words.
+fn gives(alloc: Global, trail: &mut Trail, words: &str) -> Result<bool, Trouble> {
+    let wanted = bytes_of(alloc, 1, words)?;
+    let mut given = Bytes::new(alloc);
+    give(trail, &mut given)?;
+    Ok(given.as_slice() == wanted.as_slice())
+}
+
+fn give(trail: &mut Trail, given: &mut Bytes) -> Result<(), Trouble> {
+    for _ in 0..u64::MAX {
+        match trail.peer_out() {
+            Some(PeerOut::Bytes(message)) => given.append(message.as_slice())?,
+            Some(_) => return Err(Trouble::NoWord),
+            None => break,
+        }
+    }
+    Ok(())
 }

@@ -2,13 +2,14 @@
 
 ghost use Rattle.transfer_frames.specs.Grammar.{IsReply};
 
-use crate::calls::{connect, copy_all, hand_file, note, read, say_words, write};
+use crate::calls::{connect, copy_all, hand, note, read, say_words, write};
 use crate::trouble::Trouble;
 use crate::words::TOKEN;
 use proxy_trail::Trail;
 use shm_pools::FilePen;
 use std::alloc::Global;
 use transfer_frames::{Frame, put_small};
+use wp_outside::HandleKind;
 
 // An image of 4,096 by 1,024 pixels.
 const IMAGE: u32 = 16_777_216;
@@ -32,7 +33,7 @@ pub fn weigh(alloc: Global, trail: &mut Trail, weight: u64) -> Result<(), Troubl
 
 fn show_image(alloc: Global, trail: &mut Trail) -> Result<(), Trouble> {
     say_words(alloc, trail, 1, "registry compositor shm surface")?;
-    hand_file(trail, 2)?;
+    hand(trail, 2, HandleKind::File)?;
     say_words(alloc, trail, 1, SHOWN)?;
     let mut pen = FilePen::new(alloc, 2, IMAGE)?;
     commit_image(alloc, trail, &mut pen)

@@ -72,11 +72,16 @@ fn carry_on(
     Ok(line.len())
 }
 
-/// All bytes that there are go to the other side, both ways.
-pub fn settle(alloc: Global, near: &mut Trail, far: &mut Trail) -> Result<(), Trouble> {
+/// All bytes that there are go to the other side, both ways, at most so many in one piece.
+pub fn settle(
+    alloc: Global,
+    near: &mut Trail,
+    far: &mut Trail,
+    most: usize,
+) -> Result<(), Trouble> {
     for _ in 0..u64::MAX {
-        let up = carry(alloc, near, far, MOST_CARRIED)?;
-        let down = carry(alloc, far, near, MOST_CARRIED)?;
+        let up = carry(alloc, near, far, most)?;
+        let down = carry(alloc, far, near, most)?;
         if up == 0 && down == 0 {
             break;
         }

@@ -2,9 +2,11 @@
 
 use half_model::PeerOut;
 use pair_audit::audit;
-use proxy_trail::Trail;
+use pair_report::{ReportOptions, report};
+use proxy_trail::{PairRecord, Trail};
 use std::alloc::Global;
 use std::io;
+use wp_outside::PipeItem;
 
 /// Prints bytes in hexadecimal, behind words.
 pub fn show_bytes<R: Print>(rt: &R, alloc: Global, words: &str, bytes: &[u8]) -> io::Result<()> {
@@ -60,12 +62,23 @@ fn show_item<R: Print>(rt: &R, alloc: Global, item: &PeerOut) -> io::Result<()> 
             print!(rt; "filled {rid} from {start} ")?;
             show_bytes(rt, alloc, "with", bytes.as_slice())
         }
-        PeerOut::Pipe(_) => println!(rt; "an item of a pipe"),
+        PeerOut::Pipe(item) => show_pipe(rt, alloc, item),
         PeerOut::Receipt {
             number,
             segment,
             ..
         } => println!(rt; "receipt {number} segment {segment}"),
+    }
+}
+
+fn show_pipe<R: Print>(rt: &R, alloc: Global, item: &PipeItem) -> io::Result<()> {
+    match item {
+        PipeItem::Bytes { pipe, bytes } => {
+            print!(rt; "pipe {pipe} ")?;
+            show_bytes(rt, alloc, "bytes", bytes.as_slice())
+        }
+        PipeItem::End { pipe } => println!(rt; "pipe {pipe} ended"),
+        PipeItem::Shut { pipe } => println!(rt; "pipe {pipe} shut"),
     }
 }
 
@@ -110,5 +123,21 @@ pub fn show_audit<R: Print>(rt: &R, near: &Trail, far: &Trail) -> io::Result<()>
     match audit(near, far) {
         Ok(_) => println!(rt; "agreed"),
         Err(differs) => println!(rt; "{differs:?}"),
+    }
+}
+
+/// Prints a report.
+pub fn show_report<R: Print>(
+    rt: &R,
+    alloc: Global,
+    options: ReportOptions,
+    pair: &PairRecord,
+) -> io::Result<()> {
+    match report(alloc, options, pair) {
+        Ok(text) => match str::from_utf8(text.as_slice()) {
+            Ok(text) => print!(rt; "{text}"),
+            Err(_) => println!(rt; "no text"),
+        },
+        Err(_) => println!(rt; "no memory"),
     }
 }

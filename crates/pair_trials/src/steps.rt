@@ -1,6 +1,7 @@
 //! What a line of a row says.
 
-use wp_outside::Side;
+use pair_report::{Got, ReportOptions};
+use wp_outside::{HandleKind, Side};
 
 /// One line.
 #[derive(Clone, Copy)]
@@ -15,34 +16,42 @@ pub enum Step<'a> {
     Down(u32),
     /// All bytes are carried, both ways.
     Settle,
-    /// All words of the application's file get a value.
-    Fill(u32),
+    /// All words of both files get a value.
+    Fill(u64),
     /// Both records are compared.
     Audit,
+    /// The peers are given what there is for them.
+    Give,
+    /// The report.
+    Report(ReportOptions),
     /// A small session is cut behind each of its bytes.
     Cuts,
-    /// Pieces of so many messages are carried so many times.
-    Messages(u32, u32),
 }
 
 /// What one proxy does, or shows.
 #[derive(Clone, Copy)]
 pub enum Act<'a> {
-    /// Its peer puts the same messages on its wire so many times, the handle of a file, that of a
-    /// pipe, whose number is below 0, a note.
+    /// Its peer puts the same messages on its wire so many times, a message by its text, a handle,
+    /// a note.
     Say(u32, &'a str),
-    Hand(u32),
-    Pipe(u32),
+    Tell(&'a str),
+    Hand(i32, HandleKind),
     Note,
-    /// Its copies are made.
+    /// Its peer writes to a pipe, closes a write end, closes a reading end.
+    Write(i32, &'a str),
+    End(i32),
+    Shut(i32),
+    /// Its copies are made; one is made, and something happens before it comes back.
     Copies,
+    Late(&'a str),
     /// It is asked to close.
     Close(u32),
     /// A connection comes up on its side alone, and goes down.
     Connect(u32),
     Break,
-    /// A piece comes to it.
+    /// Bytes come to it, in one piece or in pieces of at most so many bytes.
     Read(&'a str),
+    Pieces(u32, &'a str),
     /// It writes at most so many bytes, which are lost.
     Lose(u32),
     /// Its record grows until it weighs so much.
@@ -69,10 +78,11 @@ impl<'a> Step<'a> {
             ("up", Some(most)) => Some(Step::Up(most)),
             ("down", Some(most)) => Some(Step::Down(most)),
             ("settle", _) => Some(Step::Settle),
-            ("fill", Some(value)) => Some(Step::Fill(value)),
+            ("fill", _) => fill(rest),
             ("audit", _) => Some(Step::Audit),
+            ("give", _) => Some(Step::Give),
+            ("report", _) => report_of(rest),
             ("cuts", _) => Some(Step::Cuts),
-            ("messages", _) => messages(rest),
             _ => None,
         }
     }
@@ -85,31 +95,73 @@ fn of_side(side: Side, rest: &str) -> Option<Step<'_>> {
     }
 }
 
-fn messages(rest: &str) -> Option<Step<'_>> {
-    let (count, times) = first_word(rest);
-    match (number(count), number(times)) {
-        (Some(count), Some(times)) => Some(Step::Messages(count, times)),
+fn fill(word: &str) -> Option<Step<'_>> {
+    match word.parse() {
+        Ok(value) => Some(Step::Fill(value)),
+        Err(_) => None,
+    }
+}
+
+fn report_of(rest: &str) -> Option<Step<'_>> {
+    let (name, behind) = first_word(rest);
+    let long = name == "long";
+    match got(if long { behind } else { name }) {
+        Some(got) => Some(Step::Report(ReportOptions { long, got })),
+        None => None,
+    }
+}
+
+fn got(name: &str) -> Option<Got> {
+    match name {
+        "hexadecimal" => Some(Got::Hexadecimal),
+        "text" => Some(Got::Text),
+        "without" => Some(Got::LeftOut),
         _ => None,
     }
 }
 
 impl<'a> Act<'a> {
-    fn read(line: &'a str) -> Option<Act<'a>> {
+    /// What the words behind a side's name say; None where they say nothing.
+    pub fn read(line: &'a str) -> Option<Act<'a>> {
         let (name, rest) = first_word(line);
         match (name, number(rest)) {
             ("say", _) => Some(Act::Say(1, rest)),
-            ("repeat", _) => repeat(rest),
-            ("hand", Some(number)) => Some(Act::Hand(number)),
-            ("pipe", Some(number)) => Some(Act::Pipe(number)),
+            ("tell", _) => Some(Act::Tell(rest)),
+            ("repeat" | "pieces", _) => Act::with_number(name, rest),
             ("note", _) => Some(Act::Note),
             ("copies", _) => Some(Act::Copies),
+            ("late", _) => Some(Act::Late(rest)),
             ("close", Some(reason)) => Some(Act::Close(reason)),
             ("connect", Some(connection)) => Some(Act::Connect(connection)),
             ("break", _) => Some(Act::Break),
             ("read", _) => Some(Act::Read(rest)),
             ("lose", Some(most)) => Some(Act::Lose(most)),
             ("weigh", Some(weight)) => Some(Act::Weigh(weight)),
+            ("file" | "pipe" | "write" | "end" | "shut", _) => Act::on_handle(name, rest),
             _ => Act::look(name),
+        }
+    }
+
+    // What is done with a number, and the words behind it.
+    fn with_number(name: &str, rest: &'a str) -> Option<Act<'a>> {
+        let (word, behind) = first_word(rest);
+        match (name, number(word)) {
+            ("repeat", Some(times)) => Some(Act::Say(times, behind)),
+            ("pieces", Some(most)) => Some(Act::Pieces(most, behind)),
+            _ => None,
+        }
+    }
+
+    // What is done with a handle, whose number may be below 0.
+    fn on_handle(name: &str, rest: &'a str) -> Option<Act<'a>> {
+        let (word, behind) = first_word(rest);
+        match (name, handle(word)) {
+            ("file", Some(number)) => Some(Act::Hand(number, HandleKind::File)),
+            ("pipe", Some(number)) => Some(Act::Hand(number, HandleKind::PipeWrite)),
+            ("write", Some(pipe)) => Some(Act::Write(pipe, behind)),
+            ("end", Some(pipe)) => Some(Act::End(pipe)),
+            ("shut", Some(pipe)) => Some(Act::Shut(pipe)),
+            _ => None,
         }
     }
 
@@ -126,14 +178,6 @@ impl<'a> Act<'a> {
     }
 }
 
-fn repeat(rest: &str) -> Option<Act<'_>> {
-    let (times, words) = first_word(rest);
-    match number(times) {
-        Some(times) => Some(Act::Say(times, words)),
-        None => None,
-    }
-}
-
 // The first word of a line, and what is behind it.
 fn first_word(line: &str) -> (&str, &str) {
     match line.split_once(' ') {
@@ -144,5 +188,10 @@ fn first_word(line: &str) -> (&str, &str) {
 
 // The number that a word names.
 fn number(word: &str) -> Option<u32> {
+    word.parse().ok()
+}
+
+// The number of a handle that a word names.
+fn handle(word: &str) -> Option<i32> {
     word.parse().ok()
 }

@@ -3,13 +3,15 @@
 use crate::trouble::Trouble;
 use side_model::ProxyFault;
 use std::alloc::Global;
+use wl_tables::Way;
+use wl_text::{TextFault, read_message};
 use wl_wire::Bytes;
 
 /// The session's token.
 pub const TOKEN: [u8; 16] = *b"of this session.";
 
 // Words that stand for bytes. All others are hexadecimal digits.
-const WORDS: [(&str, &[u8]); 31] = [
+const WORDS: [(&str, &[u8]); 32] = [
     // RESTART of a connection, with a count of accepted frames.
     (
         "restart-1",
@@ -68,7 +70,8 @@ const WORDS: [(&str, &[u8]); 31] = [
     ),
     ("surface", b"\x03\0\0\0\0\0\x0c\0\x05\0\0\0"),
     // `create_pool` of 64 bytes as object 6, of this `create_buffer` of 4 by 4 pixels as object 7;
-    // `attach` of the buffer to the surface, `damage_buffer` of its first pixel, `commit`.
+    // `attach` of the buffer to the surface, `damage_buffer` of its first pixel, `damage` of 640 by
+    // 480 pixels, `commit`.
     ("pool", b"\x04\0\0\0\0\0\x10\0\x06\0\0\0\x40\0\0\0"),
     (
         "buffer",
@@ -81,6 +84,10 @@ const WORDS: [(&str, &[u8]); 31] = [
     (
         "damage",
         b"\x05\0\0\0\x09\0\x18\0\0\0\0\0\0\0\0\0\x01\0\0\0\x01\0\0\0",
+    ),
+    (
+        "damage-image",
+        b"\x05\0\0\0\x02\0\x18\0\0\0\0\0\0\0\0\0\x80\x02\0\0\xe0\x01\0\0",
     ),
     ("commit", b"\x05\0\0\0\x06\0\x08\0"),
     // `bind` of `wl_data_device_manager` as object 3, of this `create_data_source` of object 7, and
@@ -95,11 +102,22 @@ const WORDS: [(&str, &[u8]); 31] = [
 
 /// The bytes of a row of words, one behind the other, so many times.
 pub fn bytes_of(alloc: Global, times: u32, words: &str) -> Result<Bytes, Trouble> {
+    let mut row = Bytes::new(alloc);
+    add_all(alloc, &mut row, words)?;
     let mut bytes = Bytes::new(alloc);
     for _ in 0..times {
-        add_all(alloc, &mut bytes, words)?;
+        bytes.append(row.as_slice())?;
     }
     Ok(bytes)
+}
+
+/// The bytes of a message, by its text.
+pub fn message_of(alloc: Global, way: Way, text: &str) -> Result<Bytes, Trouble> {
+    match read_message(alloc, text.as_bytes(), way) {
+        Ok(read) => Ok(read.message.into_bytes()),
+        Err(TextFault::Form) => Err(Trouble::NoWord),
+        Err(TextFault::Memory) => Err(Trouble::Fault(ProxyFault::Memory)),
+    }
 }
 
 fn add_all(alloc: Global, bytes: &mut Bytes, words: &str) -> Result<(), Trouble> {

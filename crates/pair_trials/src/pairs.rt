@@ -1,14 +1,12 @@
 //! A new pair.
 
+use crate::words::TOKEN;
 use proxy_trail::{PairEnd, PairRecord, Trail};
 use std::alloc::{AllocError, Global};
 use take_half::PeerRecord;
 use wp_outside::Side;
 
-// The session's token.
-const TOKEN: [u8; 16] = *b"of this session.";
-
-/// A pair of proxies to which nothing has happened.
+/// A pair of proxies to which nothing has happened. It is boxed, so that a pointer is what moves.
 pub fn new_pair(alloc: Global) -> Result<Box<PairRecord>, AllocError> {
     let pair = pair_by_value(alloc)?;
     Ok(Box::new(alloc, pair)?)
@@ -22,7 +20,10 @@ fn pair_by_value(alloc: Global) -> Result<PairRecord, AllocError> {
 fn pair_with(alloc: Global, near: Trail) -> Result<PairRecord, AllocError> {
     match Trail::new(alloc, Side::Far, TOKEN) {
         Ok(far) => Ok(pair_of(alloc, near, far)),
-        Err(error) => Err(error),
+        Err(error) => {
+            drop(near);
+            Err(error)
+        }
     }
 }
 
