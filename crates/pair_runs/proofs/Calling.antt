@@ -1,8 +1,6 @@
 -- What each good call of a proxy with its records is in a run.
 use Rattle.std.proofs.Common.{◌≡◌, ℕ, List, [], ◌∷◌, take, length, Bool, true, false, not, Option, Some, None, Ok, Err, refl, sym, ap, subst, ◌∙◌, arith, inl, inr}
-use Rattle.std.proofs.lemmas.List.{append-nil, map-append}
-use Rattle.handle_table.specs.declared.handles.Handle.{Handle}
-use Rattle.shm_pools.specs.declared.notes.Note.{Note}
+use Rattle.std.proofs.lemmas.List.{append-nil}
 use Rattle.wp_outside.specs.declared.pipe_items.PipeItem.{PipeItem}
 use Rattle.wp_outside.specs.declared.pipe_items.PipeItem.TheVariants as pieces
 use Rattle.half_model.specs.declared.items.PeerIn.{PeerIn}
@@ -103,12 +101,8 @@ pipe_works half item s book (pipes.Makes frame tables) = record {
 pub fed_base : (half : ℕ) (item : PeerIn) (s : Now) (book : Book) → Works false (fed item (seen half s book)) (seen half (step (Fed item) s) (grown (Fed item) s (closed book)))
 unfolding step
 fed_base half (items.Bytes piece) s book = works_same false (fed (items.Bytes piece) (seen half s book))
-fed_base half (items.Handle handle) s book =
-    same_works false (ap (λ (handles : List Handle). with_inside (λ inside. record inside { handles = handles }) (seen half s book))
-    (sym (map-append (λ one. one.1) s.live.sending.inlet.handles ((s.live.sending.inlet.fed, handle) ∷ []))))
-fed_base half (items.Note note) s book =
-    same_works false (ap (λ (notes : List Note). with_inside (λ inside. record inside { notes = notes }) (seen half s book))
-    (sym (map-append (λ one. one.1) s.live.sending.inlet.notes ((s.live.sending.inlet.fed, note) ∷ []))))
+fed_base half (items.Handle handle) s book = works_same false (fed (items.Handle handle) (seen half s book))
+fed_base half (items.Note note) s book = works_same false (fed (items.Note note) (seen half s book))
 fed_base half (items.Pipe item) s book = pipe_works half item s (closed book) (pipe_turn s.live.tables s.live.taking item)
 
 pipe_here : (it : PipeTurn) (s : Now) → (fed_pipe it s).live.here ≡ s.live.here

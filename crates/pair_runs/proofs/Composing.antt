@@ -1,9 +1,11 @@
 -- What calls change, one after another.
-use Rattle.std.proofs.Common.{◌≡◌, ◌≢◌, ℕ, Bool, true, false, List, [], ◌∷◌, ◌++◌, refl, sym, ap, ◌∙◌, append_assoc, arith}
-use Rattle.std.proofs.lemmas.List.{append-nil}
+use Rattle.std.proofs.Common.{◌≡◌, ◌≢◌, ℕ, Bool, true, false, List, [], ◌∷◌, ◌++◌, length, refl, sym, ap, ◌∙◌, append_assoc, arith}
+use Rattle.std.proofs.lemmas.List.{append-nil, length-append}
 use Rattle.std.specs.List.{AllByRecursion}
 use Rattle.wl_wire.specs.Wire.{joined, IsMessage}
+use Rattle.half_model.specs.Inlet.{Inlet}
 use Rattle.side_model.specs.Books.{TrailRecord}
+use Rattle.pair_runs.specs.Leaving.{Leaves}
 use Rattle.pair_runs.specs.Sides.{Inside, SideState}
 use Rattle.pair_runs.specs.Working.{Takes, Awaits, Grows, Silent, Works}
 use Rattle.pair_runs.proofs.Ends.{front_same, front_then, end_same, end_then}
@@ -26,10 +28,27 @@ pub all_then : {X : Type 0} (P : X → Type 0) (xs ys : List X) → AllByRecursi
 all_then P [] ys h k = k
 all_then P (x ∷ xs) ys h k = (h.0, all_then P xs ys h.1 k)
 
+-- ---- what waits inside
+
+pub leaves_same : (waits : Inlet) → Leaves [] waits waits
+leaves_same waits = record { bytes = refl; fed = refl; taken = omega arith; handles = end_same waits.handles; notes = end_same waits.notes }
+
+pub leaves_then : (xs ys : List (List ℕ)) {a b c : Inlet} → Leaves xs a b → Leaves ys b c → Leaves (xs ++ ys) a c
+leaves_then xs ys {a} {b} {c} f g = record {
+  bytes =
+      f.bytes ∙ ap (λ bytes. joined xs ++ bytes) g.bytes
+      ∙ sym (append_assoc (joined xs) (joined ys) c.bytes)
+      ∙ ap (λ bytes. bytes ++ c.bytes) (sym (joined_then xs ys));
+  fed = g.fed ∙ f.fed;
+  taken = omega (arith, f.taken, g.taken, ap length (joined_then xs ys), length-append (joined xs) (joined ys));
+  handles = end_then f.handles g.handles;
+  notes = end_then f.notes g.notes;
+}
+
 -- ---- nothing
 
 pub takes_same : (a : Inside) → Takes [] a a
-takes_same a = record { messages = tt; bytes = refl; handles = end_same a.handles; notes = end_same a.notes; asked = refl; none = λ e. refl }
+takes_same a = record { messages = tt; inlet = leaves_same a.inlet; asked = refl; none = λ e. refl }
 
 pub grows_same : (a : TrailRecord) → Grows [] a a
 grows_same a = record { side = refl; taken = sym (append-nil a.taken); made = front_same a.made; copies = front_same a.copies; lines = refl; accepted = omega arith }
@@ -49,12 +68,7 @@ works_same hears a = record {
 pub takes_then : (xs ys : List (List ℕ)) {a b c : Inside} → Takes xs a b → Takes ys b c → Takes (xs ++ ys) a c
 takes_then xs ys {a} {b} {c} h k = record {
   messages = all_then IsMessage xs ys h.messages k.messages;
-  bytes =
-      h.bytes ∙ ap (λ bytes. joined xs ++ bytes) k.bytes
-      ∙ sym (append_assoc (joined xs) (joined ys) c.bytes)
-      ∙ ap (λ bytes. bytes ++ c.bytes) (sym (joined_then xs ys));
-  handles = end_then h.handles k.handles;
-  notes = end_then h.notes k.notes;
+  inlet = leaves_then xs ys h.inlet k.inlet;
   asked = k.asked ∙ h.asked;
   none = λ e. k.none (none_right xs ys e) ∙ h.none (none_left xs ys e);
 }

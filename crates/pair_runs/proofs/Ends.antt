@@ -1,8 +1,8 @@
 -- Fronts and ends of lists, one after another.
-use Rattle.std.proofs.Common.{List, [], ◌∷◌, ◌++◌, map, refl, sym, ap, ◌∙◌, append_assoc}
-use Rattle.std.proofs.lemmas.List.{append-nil, map-append}
+use Rattle.std.proofs.Common.{List, [], ◌∷◌, ◌++◌, refl, sym, ap, ◌∙◌, append_assoc}
+use Rattle.std.proofs.lemmas.List.{append-nil}
 use Rattle.plain_lists.specs.Fronts.{IsFront}
-use Rattle.pair_runs.specs.Working.{IsEnd}
+use Rattle.pair_runs.specs.Leaving.{IsEnd}
 
 pub front_same : {X : Type 0} (xs : List X) → IsFront xs xs
 front_same xs = record { rest = []; is = append-nil xs }
@@ -27,6 +27,3 @@ end_then {X} {xs} {ys} {zs} f g = record {
   gone = f.gone ++ g.gone;
   is = append_assoc f.gone g.gone zs ∙ ap (λ (v : List X). f.gone ++ v) g.is ∙ f.is;
 }
-
-pub end_map : {X Y : Type 0} (f : X → Y) {xs ys : List X} → IsEnd ys xs → IsEnd (map f ys) (map f xs)
-end_map f {xs} {ys} e = record { gone = map f e.gone; is = sym (map-append f e.gone ys) ∙ ap (map f) e.is }

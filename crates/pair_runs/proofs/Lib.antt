@@ -12,6 +12,8 @@ pub mod Wrongs
 pub mod Lines
 pub mod Tying
 pub mod Agreeing
+pub mod Refusals
+pub mod Reasons
 pub mod Failing
 pub mod Handing
 pub mod Bringing

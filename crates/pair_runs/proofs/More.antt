@@ -23,7 +23,7 @@ use Rattle.pair_runs.specs.WorkLaws.{RunsOn}
 use Rattle.pair_runs.specs.Working.{Works}
 use Rattle.pair_runs.proofs.Calling.{Ran, ran_by, quiet_still, fed_here}
 use Rattle.pair_runs.proofs.Composing.{works_then}
-use Rattle.pair_runs.proofs.Failing.{then_part}
+use Rattle.pair_runs.proofs.Failing.{then_part, then_works}
 use Rattle.pair_runs.proofs.Rowing.{stays_quiet}
 
 pub works_more : WorksMore
@@ -74,9 +74,10 @@ reads_more one other a b c h k =
 
 pub part_more : PartMore
 part_more = record {
-  works = then_part;
-  reads = λ one other a b c h p.
-      then_part (read (one ++ other) a) (read other b) c
+  part = then_part;
+  works = λ fault a b c w p. then_works true fault a b c w p;
+  reads = λ fault one other a b c h p.
+      then_works true fault (read (one ++ other) a) (read other b) c
       (subst (λ (x : SideState). Works true x (read other b)) (read_twice one other a) (on_same (on_last (with_read other)) true (read one a) b h)) p;
 }
 

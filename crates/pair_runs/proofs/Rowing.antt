@@ -1,5 +1,5 @@
 -- What the events change that are due inside, one by one and in a row.
-use Rattle.std.proofs.Common.{◌≡◌, ℕ, List, [], ◌∷◌, ◌++◌, map, Bool, true, false, not, Option, Some, None, refl, sym, ap, subst, ◌∙◌, arith, if◌then◌else◌, inl, inr}
+use Rattle.std.proofs.Common.{◌≡◌, ℕ, ◌+◌, List, [], ◌∷◌, ◌++◌, length, map, Bool, true, false, not, Option, Some, None, refl, sym, ap, subst, ◌∙◌, arith, if◌then◌else◌, inl, inr}
 use Rattle.std.proofs.lemmas.List.{append-nil}
 use Rattle.std.specs.Prelude.{sum_by}
 use Rattle.wp_outside.specs.declared.kinds.Side.{Side}
@@ -24,8 +24,8 @@ use Rattle.side_model.proofs.Dues.{DueIn, InHear, InGroup, InTreat, InEnd, InCho
 use Rattle.side_model.proofs.Quiets.{quiet_worked, quiet_chose}
 use Rattle.pair_runs.specs.Sides.{awaited, loaded_in, words_in, seen}
 use Rattle.pair_runs.specs.Working.{Works}
-use Rattle.pair_runs.proofs.Composing.{takes_same, works_same, works_then, may_hear}
-use Rattle.pair_runs.proofs.Ends.{front_same, front_more, end_same, end_map}
+use Rattle.pair_runs.proofs.Composing.{leaves_same, takes_same, works_same, works_then, may_hear}
+use Rattle.pair_runs.proofs.Ends.{front_same, front_more}
 use Rattle.pair_runs.proofs.Turning.{LeftBy, left_by}
 
 -- the records with one more mark
@@ -92,9 +92,13 @@ took_works half s book it none taken left = record {
   took = it.message ∷ [];
   inside = record {
     messages = (taken.lawful.whole, tt);
-    bytes = taken.front ∙ ap (λ (front : List ℕ). front ++ it.sending.inlet.bytes) (sym (append-nil it.message));
-    handles = end_map (λ one. one.1) left.handles;
-    notes = end_map (λ one. one.1) left.notes;
+    inlet = record {
+      bytes = taken.front ∙ ap (λ (front : List ℕ). front ++ it.sending.inlet.bytes) (sym (append-nil it.message));
+      fed = left.fed;
+      taken = left.taken ∙ ap (λ (front : List ℕ). s.live.sending.inlet.taken + length front) (sym (append-nil it.message));
+      handles = left.handles;
+      notes = left.notes;
+    };
     asked = refl;
     none = λ e. absurd cc;
   };
@@ -117,9 +121,7 @@ ended_works half s book (Asked reason) e = record {
   took = [];
   inside = record {
     messages = tt;
-    bytes = refl;
-    handles = end_same _;
-    notes = end_same _;
+    inlet = leaves_same s.live.sending.inlet;
     asked = sym (ap (λ closing. not (is_open closing)) e);
     none = λ n. ap (λ asked. record (seen half s book).inside { asked = asked }) (sym (ap (λ closing. not (is_open closing)) e));
   };

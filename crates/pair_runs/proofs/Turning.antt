@@ -1,5 +1,5 @@
 -- What a message that is taken leaves of what waits inside, and of its copies.
-use Rattle.std.proofs.Common.{◌≡◌, ℕ, ◌+◌, List, [], ◌∷◌, map, Bool, true, false, nat_lt, Option, Some, None, Result, Ok, Err, refl, subst, arith, if◌then◌else◌}
+use Rattle.std.proofs.Common.{◌≡◌, ℕ, ◌+◌, List, [], ◌∷◌, length, map, Bool, true, false, nat_lt, Option, Some, None, Result, Ok, Err, refl, subst, arith, if◌then◌else◌}
 use Rattle.std.specs.Prelude.{sum_by, slice_index_or}
 use Rattle.std.proofs.lemmas.List.Sums.{sum_by-cons}
 use Rattle.wp_outside.specs.declared.kinds.HandleKind.{HandleKind}
@@ -20,8 +20,8 @@ use Rattle.half_model.specs.Jobs.{Job, job_of, jobs_of, no_eye}
 use Rattle.half_model.specs.Planning.{Plan, Refusal, plan_passed, kind_carried}
 use Rattle.half_model.specs.Tables.{Tables}
 use Rattle.half_model.specs.Turn.{Sending, Turn, Idle, Refuses, Takes, Treated, unless_refused, treated_by, turn_planned, turn_step, turn_front, turn_unless, turn}
+use Rattle.pair_runs.specs.Leaving.{IsEnd}
 use Rattle.pair_runs.specs.Sides.{loaded_in}
-use Rattle.pair_runs.specs.Working.{IsEnd}
 use Rattle.pair_runs.proofs.Ends.{end_same, end_one}
 
 -- ---- handles and notes
@@ -56,6 +56,8 @@ fresh half next eyes (part ∷ parts) =
 -- ---- the message that is taken
 
 pub record LeftBy (s : Sending) (t : Treated) : Type 0 where
+  pub fed : t.sending.inlet.fed ≡ s.inlet.fed
+  pub taken : t.sending.inlet.taken ≡ s.inlet.taken + length t.message
   pub handles : IsEnd t.sending.inlet.handles s.inlet.handles
   pub notes : IsEnd t.sending.inlet.notes s.inlet.notes
   pub fresh : (half : ℕ) → sum_by (loaded_in half) t.jobs ≡ 0
@@ -72,6 +74,8 @@ left_refused s index (Some refusal) t h = tt
 left_treated : (s : Sending) (message : List ℕ) (handle : Option Handle) (kind : Option HandleKind) (deed : Deed) (it : Plan) (eyes : List EyeState)
     → LeftBy s (treated_by s message handle (inlet_after kind deed message s.inlet) it eyes)
 left_treated s message handle kind deed it eyes = record {
+  fed = refl;
+  taken = refl;
   handles = handles_end kind message s.inlet;
   notes = notes_end deed message s.inlet;
   fresh = λ half. fresh half s.next_job eyes (parts_of (owed_by it (map (λ eye. eye.words) eyes)).file (owed_by it (map (λ eye. eye.words) eyes)).segments (owed_by it (map (λ eye. eye.words) eyes)).pieces);

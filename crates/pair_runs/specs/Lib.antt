@@ -1,4 +1,7 @@
 pub mod Sides
+pub mod Leaving
+pub mod Causes
+pub mod Whys
 pub mod Working
 pub mod States
 pub mod Taking

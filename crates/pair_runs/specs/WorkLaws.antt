@@ -16,13 +16,15 @@ use Rattle.side_model.specs.Calls.{MOST_CONNECTIONS}
 use Rattle.side_model.specs.Events.{Fed, Handed, Lent, Up, Down, Came, Gave, Asks}
 use Rattle.side_model.specs.Follows.{is_message}
 use Rattle.side_model.specs.Shows.{wants_peer, next_item, front_of}
+use Rattle.side_model.specs.Sound.{Admits}
 use Rattle.side_model.specs.Trails.{TrailState, Keeps, TrailCalls, trail_step, Sends, Lends}
 use Rattle.pair_runs.specs.Kept.{GoesOn, HasFailed}
 use Rattle.pair_runs.specs.Linking.{with_line, written, read, RefusesPiece}
 use Rattle.pair_runs.specs.Moves.{LineInPart}
 use Rattle.pair_runs.specs.Sides.{SideState, TOKEN, fed, asked, all_loaded, wants, side_seen}
 use Rattle.pair_runs.specs.Sides.{rows_of, last_number, link_record}
-use Rattle.pair_runs.specs.Working.{Works, WorksInPart}
+use Rattle.pair_runs.specs.Whys.{RefusesMore, RefusesLine}
+use Rattle.pair_runs.specs.Working.{Works, InPart, WorksInPart}
 
 -- a proxy that runs on
 pub record RunsOn (t : TrailState) : Type 0 where
@@ -107,37 +109,41 @@ NoneOut = (half other : ℕ) (t : TrailState)
 
 -- ---- calls that meet a fault
 
--- a piece is read, or it is not, for one of two faults
-abbrev pub FailsInPart : ProxyFault → SideState → SideState → SideState → Type 0
-FailsInPart fault old done new = (RefusesPiece fault × WorksInPart old new) ⊎ WorksInPart done new
+-- a piece of so many bytes is read, or it is refused
+abbrev pub FailsInPart : ℕ → ProxyFault → SideState → SideState → SideState → Type 0
+FailsInPart size fault old done new =
+    (RefusesMore size fault new.book.trail × InPart old new)
+    ⊎ WorksInPart true None fault done new
 
 abbrev pub FedFails : Type 0
 FedFails = (half : ℕ) (item : PeerIn) (fault : ProxyFault) (old new : TrailState) → RunsOn old
-    → TrailCalls (Fed item) (Err fault) old new
-    → WorksInPart (fed item (side_seen half old)) (side_seen half new)
+    → Admits (Fed item) old.now → TrailCalls (Fed item) (Err fault) old new
+    → WorksInPart false (Some item) fault (fed item (side_seen half old)) (side_seen half new)
 
 abbrev pub CameFails : Type 0
 CameFails = (half : ℕ) (piece : List ℕ) (here : Here) (fault : ProxyFault) (old new : TrailState)
-    → RunsOn old → old.now.live.here ≡ Some here
+    → RunsOn old → Admits (Came piece) old.now → old.now.live.here ≡ Some here
     → TrailCalls (Came piece) (Err fault) old new
-    → FailsInPart fault (side_seen half old) (read piece (side_seen half old)) (side_seen half new)
+    → FailsInPart (length piece) fault (side_seen half old) (read piece (side_seen half old))
+    (side_seen half new)
 
 abbrev pub AsksFails : Type 0
 AsksFails = (half reason : ℕ) (fault : ProxyFault) (old new : TrailState) → RunsOn old
-    → TrailCalls (Asks reason) (Err fault) old new
-    → WorksInPart (asked (side_seen half old)) (side_seen half new)
+    → Admits (Asks reason) old.now → TrailCalls (Asks reason) (Err fault) old new
+    → WorksInPart false None fault (asked (side_seen half old)) (side_seen half new)
 
 abbrev pub HandedFails : Type 0
 HandedFails = (half : ℕ) (done : Done) (fault : ProxyFault) (old new : TrailState) → RunsOn old
-    → TrailCalls (Handed done) (Err fault) old new
-    → WorksInPart (side_seen half old) (side_seen half new)
+    → Admits (Handed done) old.now → TrailCalls (Handed done) (Err fault) old new
+    → WorksInPart false None fault (side_seen half old) (side_seen half new)
 
--- a connection has its line, or not
+-- a connection has its line, or not; and why it is refused
 abbrev pub UpFails : Type 0
 UpFails = (half connection : ℕ) (fault : ProxyFault) (old new : TrailState) → RunsOn old
     → old.now.live.here ≡ None
     → TrailCalls (Up connection) (Err fault) old new
     → LineInPart connection (side_seen half old) (side_seen half new)
+    × RefusesLine connection fault (side_seen half old).book.trail
 
 -- there is none above the greatest, and that is the one cause of its limit
 pub record UpLimits : Type 0 where

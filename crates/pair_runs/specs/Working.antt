@@ -1,23 +1,20 @@
 -- What one call of a side may change beside what it was called for, by the messages that it takes
 -- and the frames that it makes and hears. Messages are Wayland's; all else is this project's own.
-use Rattle.std.specs.Prelude.{◌≡◌, ◌≢◌, ℕ, ◌≤◌, Bool, false, List, [], ◌++◌}
+use Rattle.std.specs.Prelude.{◌≡◌, ◌≢◌, ℕ, ◌≤◌, Bool, false, List, [], ◌++◌, Option}
 use Rattle.std.specs.List.{AllByRecursion}
 use Rattle.plain_lists.specs.Fronts.{IsFront}
 use Rattle.wl_wire.specs.Wire.{joined, IsMessage}
+use Rattle.half_model.specs.declared.items.PeerIn.{PeerIn}
+use Rattle.side_model.specs.declared.fault.ProxyFault.{ProxyFault}
 use Rattle.side_model.specs.Books.{TrailRecord}
+use Rattle.pair_runs.specs.Leaving.{Leaves}
 use Rattle.pair_runs.specs.Sides.{Inside, SideState}
+use Rattle.pair_runs.specs.Whys.{Why}
 
--- the whole is something and then this end
-pub record IsEnd {X : Type 0} (end whole : List X) : Type 0 where
-  pub gone : List X
-  pub is : gone ++ end ≡ whole
-
--- messages are taken from the front of what waits inside, with their handles and notes
+-- messages are taken from the front of what waits inside, with some of its handles and notes
 pub record Takes (took : List (List ℕ)) (a b : Inside) : Type 0 where
   pub messages : AllByRecursion IsMessage took
-  pub bytes : a.bytes ≡ joined took ++ b.bytes
-  pub handles : IsEnd b.handles a.handles
-  pub notes : IsEnd b.notes a.notes
+  pub inlet : Leaves took a.inlet b.inlet
   pub asked : b.asked ≡ a.asked
   pub none : took ≡ [] → b ≡ a
 
@@ -55,9 +52,15 @@ pub record Works (hears : Bool) (a b : SideState) : Type 0 where
 
 -- What a call leaves of the records that meets a fault, behind some of what it came to. What waits
 -- inside is no longer spoken of.
-pub record WorksInPart (a b : SideState) : Type 0 where
+pub record InPart (a b : SideState) : Type 0 where
   pub took : List (List ℕ)
   pub messages : AllByRecursion IsMessage took
-  pub bytes : IsFront (joined took) a.inside.bytes
+  pub bytes : IsFront (joined took) a.inside.inlet.bytes
   pub trail : Grows took a.book.trail b.book.trail
   pub order : IsFront a.book.order b.book.order
+
+-- And why it meets the fault; the call may hear frames, or brings an item of the peer.
+pub record WorksInPart (hears : Bool) (item : Option PeerIn) (fault : ProxyFault) (a b : SideState)
+    : Type 0 where
+  pub part : InPart a b
+  pub why : Why hears item fault part.took a.inside.inlet b.book

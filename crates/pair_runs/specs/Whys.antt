@@ -1,0 +1,149 @@
+-- Why a call of a side meets its fault: what the fault tells of the message or the item that its
+-- peer put, and of its records. Messages are Wayland's, all else is this project's own.
+use Rattle.std.specs.Prelude.{◌≡◌, ℕ, ◌+◌, ◌<◌, Bool, true, List, [], ◌∷◌, length, Option, Some}
+use Rattle.std.specs.Prelude.{None, Ok, ◌⊎◌}
+use Rattle.wp_outside.specs.declared.kinds.Side.{Side}
+use Rattle.wp_outside.specs.declared.pipe_items.PipeItem.{PipeItem}
+use Rattle.wl_wire.specs.Wire.{first}
+use Rattle.wl_objects.specs.Entries.{first_objects}
+use Rattle.wl_objects.specs.Tracking.{track}
+use Rattle.transfer_frames.specs.declared.frame.Frame.{Frame}
+use Rattle.transfer_frames.specs.declared.frame.Frame.TheVariants as frames
+use Rattle.half_model.specs.declared.causes.Limit.{Limit}
+use Rattle.half_model.specs.declared.causes.Limit.TheVariants as limits
+use Rattle.half_model.specs.declared.causes.PeerCause.{PeerCause}
+use Rattle.half_model.specs.declared.causes.PeerCause.TheVariants.{PipeUnknown}
+use Rattle.half_model.specs.declared.items.PeerIn.{PeerIn}
+use Rattle.half_model.specs.declared.items.PeerIn.TheVariants as inputs
+use Rattle.half_model.specs.Group.{Owed}
+use Rattle.half_model.specs.Inlet.{Inlet}
+use Rattle.half_model.specs.Log as marks
+use Rattle.half_model.specs.Log.{Mark, LogState, Lawful}
+use Rattle.half_model.specs.PipeTurn.{Makes, pipe_turn}
+use Rattle.half_model.specs.Story.{order_in, accepted_in}
+use Rattle.half_model.specs.StoryLaws.{now, IsStory}
+use Rattle.half_model.specs.Tables.{Tables}
+use Rattle.pair_model.specs.Wire.{Accepts}
+use Rattle.side_model.specs.declared.fault.ProxyFault.{ProxyFault}
+use Rattle.side_model.specs.declared.fault.ProxyFault.TheVariants as faults
+use Rattle.side_model.specs.Books.{Book, TrailRecord, weight, mark_cost, MOST_WEIGHT, ITEM_WEIGHT}
+use Rattle.side_model.specs.Calls.{MOST_CONNECTIONS}
+use Rattle.side_model.specs.Places.{places_in, side_of}
+use Rattle.side_model.specs.Records.{TellsStory}
+use Rattle.pair_runs.specs.Causes.{MessageHas, IsUnknown, TellsAbove}
+use Rattle.pair_runs.specs.Leaving.{Leaves}
+
+-- A story that the records of a side tell: the frames that it heard are those of the bytes read.
+pub record Told (book : Book) : Type 0 where
+  pub side : Side
+  pub story : List Mark
+  pub log : IsStory side story
+  pub tells : TellsStory side story book
+  pub heard : Accepts (side_of book.trail (places_in story) None) (accepted_in story)
+
+-- what waits behind these messages, of all that waited
+pub record Waits (took : List (List ℕ)) (all : Inlet) : Type 0 where
+  pub waits : Inlet
+  pub left : Leaves took all waits
+
+-- ---- a fault of the peer
+
+-- the message behind those that were taken has the cause
+pub record AtMessage (side : Side) (story : List Mark) (cause : PeerCause) (took : List (List ℕ))
+    (all : Inlet) : Type 0 where
+  pub behind : Waits took all
+  pub has : MessageHas side story behind.waits cause
+
+-- or the item that the call brought has it, before which no more was taken
+pub record AtItem (side : Side) (story : List Mark) (cause : PeerCause) (took : List (List ℕ))
+    (item : Option PeerIn) : Type 0 where
+  pub pipe : PipeItem
+  pub brought : item ≡ Some (inputs.Pipe pipe)
+  pub cause_is : cause ≡ PipeUnknown
+  pub none : took ≡ []
+  pub unknown : IsUnknown (now side story) pipe
+
+-- The cause stands at the index: the whole order of passing is tracked, as many of the peer's
+-- messages were taken as the index says, and the next one, or the item, has the cause.
+pub record Stands (item : Option PeerIn) (index : ℕ) (cause : PeerCause) (took : List (List ℕ))
+    (all : Inlet) (book : Book) : Type 0 where
+  pub told : Told book
+  pub index_is : index ≡ length book.trail.taken
+  pub tracked : track first_objects (order_in told.side told.story)
+      ≡ Ok (now told.side told.story).tables.objects.tracked
+  pub at : AtMessage told.side told.story cause took all
+      ⊎ AtItem told.side told.story cause took item
+
+-- ---- a limit
+
+-- the message behind those that were taken tells a size above its limit
+pub record TellsTooMuch (which : Limit) (took : List (List ℕ)) (all : Inlet) (book : Book)
+    : Type 0 where
+  pub told : Told book
+  pub behind : Waits took all
+  pub above : TellsAbove which told.side (now told.side told.story) behind.waits
+
+-- a frame that is made alone is CLOSE, or is that of the item
+pub record MadeOf (state : LogState) (item : Option PeerIn) (frame : Frame) : Type 0 where
+  pub pipe : PipeItem
+  pub brought : item ≡ Some (inputs.Pipe pipe)
+  pub tables : Tables
+  pub makes : pipe_turn state.tables state.taking pipe ≡ Makes frame tables
+
+abbrev pub IsAlone : LogState → Option PeerIn → List Frame → Type 0
+IsAlone state item (frames.Close reason ∷ []) = Unit {0}
+IsAlone state item (frame ∷ []) = MadeOf state item frame
+IsAlone state item frames = ⊥
+
+abbrev pub IsMade : LogState → Option Owed → Option PeerIn → List Frame → Type 0
+IsMade state None item frames = IsAlone state item frames
+IsMade state (Some owed) item frames = Unit {0}
+
+-- the mark may come next: a message is taken from the front of what waits, or frames are made,
+-- which are those of the message that is owed, CLOSE, or the one of the item
+abbrev pub ComesNext : LogState → Option PeerIn → Inlet → Mark → Type 0
+ComesNext state item waits (marks.Taken message handle segments) =
+    first waits.bytes ≡ Ok (Some message)
+ComesNext state item waits (marks.Grouped frames copies) = IsMade state state.owes item frames
+ComesNext state item waits mark = ⊥
+
+-- what would be recorded next is too heavy
+pub record AddsTooMuch (item : Option PeerIn) (took : List (List ℕ)) (all : Inlet) (book : Book)
+    : Type 0 where
+  pub told : Told book
+  pub behind : Waits took all
+  pub mark : Mark
+  pub lawful : Lawful (now told.side told.story) mark
+  pub comes : ComesNext (now told.side told.story) item behind.waits mark
+  pub heavy : MOST_WEIGHT < weight book.trail + mark_cost (Some mark)
+
+abbrev pub PassesLimit : Limit → Option PeerIn → List (List ℕ) → Inlet → Book → Type 0
+PassesLimit limits.File item took all book = TellsTooMuch limits.File took all book
+PassesLimit limits.Files item took all book = TellsTooMuch limits.Files took all book
+PassesLimit limits.Trail item took all book = AddsTooMuch item took all book
+PassesLimit which item took all book = ⊥
+
+-- ---- any fault
+
+-- Why a call meets a fault, where it took these messages of all that waited and leaves these
+-- records. Only a call that may hear frames refuses one; for which cause, the law of the records
+-- says. Memory may run out anywhere.
+abbrev pub Why : Bool → Option PeerIn → ProxyFault → List (List ℕ) → Inlet → Book → Type 0
+Why hears item (faults.Frame connection place cause) took all book = hears ≡ true
+Why hears item (faults.Peer index cause) took all book = Stands item index cause took all book
+Why hears item (faults.Limit which) took all book = PassesLimit which item took all book
+Why hears item faults.Memory took all book = Unit {0}
+
+-- ---- what is refused at once
+
+-- so many bytes more would be too heavy, or memory ran out
+abbrev pub RefusesMore : ℕ → ProxyFault → TrailRecord → Type 0
+RefusesMore size fault trail =
+    ((fault ≡ faults.Limit limits.Trail) × (MOST_WEIGHT < weight trail + size))
+    ⊎ (fault ≡ faults.Memory)
+
+-- a connection has too great a number, or its line would be too heavy
+abbrev pub RefusesLine : ℕ → ProxyFault → TrailRecord → Type 0
+RefusesLine connection fault trail =
+    ((fault ≡ faults.Limit limits.Connections) × (MOST_CONNECTIONS < connection))
+    ⊎ RefusesMore ITEM_WEIGHT fault trail
