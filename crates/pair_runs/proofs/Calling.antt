@@ -177,7 +177,7 @@ went_base : (half n : ℕ) (here : Here) (s : Now) (book : Book) → s.live.here
 unfolding step
 went_base half n here s book up = ap (λ (it : Option Here). seen half s (record book { trail = record book.trail { lines = record { rows = rows_written n it book.trail.lines.rows; room = 0 } } })) up
 
-fault_front : (s : Now) → s.fault ≡ None → front_of s ≡ front_here s.live.here
+pub fault_front : (s : Now) → s.fault ≡ None → front_of s ≡ front_here s.live.here
 fault_front s e = ap (λ (fault : Option ProxyFault). unless_fault fault (front_here s.live.here) []) e
 
 pub sends_is : SendsIs

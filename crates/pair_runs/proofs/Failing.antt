@@ -1,8 +1,12 @@
 -- What each call of a proxy with its records leaves in a run that meets a fault, and why it meets it.
 use Rattle.std.proofs.Common.{◌≡◌, ℕ, ◌+◌, ◌<◌, ◌≤◌, nat_lt, length, List, [], ◌∷◌, ◌++◌, Bool, true, false, if◌then◌else◌, Option, Some, None, Result, Ok, Err, refl, sym, ap, subst, ◌∙◌, append_assoc, arith, inl, inr, ◌⊎◌}
 use Rattle.std.proofs.lemmas.Bool.{ltb-true, ltb-false}
+use Rattle.std.proofs.lemmas.List.{append-nil, length-append}
+use Rattle.std.specs.List.{AllByRecursion}
 use Rattle.wl_wire.specs.Wire.{joined, IsMessage}
 use Rattle.wp_outside.specs.declared.kinds.Side.{Side}
+use Rattle.transfer_frames.specs.declared.frame.Frame.{Frame}
+use Rattle.transfer_frames.specs.Grammar.{IsFrame, spelling}
 use Rattle.half_model.specs.declared.causes.Limit.{Limit}
 use Rattle.half_model.specs.declared.causes.Limit.TheVariants as limits
 use Rattle.half_model.specs.declared.causes.Limit.TheVariants.{Connections, Trail}
@@ -11,17 +15,24 @@ use Rattle.half_model.specs.declared.items.PeerIn.{PeerIn}
 use Rattle.half_model.specs.declared.items.PeerIn.TheVariants as inputs
 use Rattle.half_model.specs.Inlet.{Inlet}
 use Rattle.half_model.specs.Jobs.{Done}
-use Rattle.pair_model.specs.Steps.{Here}
+use Rattle.half_model.specs.Story.{accepted_in}
+use Rattle.half_model.specs.Turn.{waits_in}
+use Rattle.pair_model.specs.Lines.{SideRecord}
+use Rattle.pair_model.specs.Rows.{spellings}
+use Rattle.pair_model.specs.Steps as here
+use Rattle.pair_model.specs.Steps.{Here, IsUnderWay}
 use Rattle.side_model.specs.declared.fault.ProxyFault.{ProxyFault}
 use Rattle.side_model.specs.declared.fault.ProxyFault.TheVariants as faults
 use Rattle.side_model.specs.declared.fault.ProxyFault.TheVariants.{Memory}
 use Rattle.side_model.specs.Books.{Book, weight, MOST_WEIGHT, mark_cost, line_cost, cost_read, grown, grow_all, closed, Fit}
 use Rattle.side_model.specs.Calls.{Part, CallsBarred, CallsAfter, barred, MOST_CONNECTIONS}
-use Rattle.side_model.specs.Due.{hear, next}
+use Rattle.side_model.specs.Due.{hear, next, is_free}
 use Rattle.side_model.specs.Events.{Halt, Rest, Event, Fed, Handed, Up, Came, Asks}
-use Rattle.side_model.specs.Follows.{Follows}
+use Rattle.side_model.specs.Follows.{Follows, GoesOn, LinkFollows}
 use Rattle.side_model.specs.Marks.{mark_of}
+use Rattle.side_model.specs.Places.{places_in, side_of}
 use Rattle.side_model.specs.Records.{Law, IndexIs}
+use Rattle.side_model.specs.Shows.{wants_peer, front_of, front_here}
 use Rattle.side_model.specs.Sound.{Admits}
 use Rattle.side_model.specs.State.{Now}
 use Rattle.side_model.specs.Steps.{step}
@@ -30,20 +41,21 @@ use Rattle.side_model.proofs.Calms.{up_rests}
 use Rattle.side_model.proofs.Dues.{due_in, all_rest}
 use Rattle.side_model.proofs.Parts.{part_at, FollowsOn, follows_part}
 use Rattle.side_model.proofs.RowProofs.{none_after}
+use Rattle.side_model.proofs.Sounds.{wants_free}
 use Rattle.side_model.proofs.TrailDone.{whole_weighs}
 use Rattle.side_model.proofs.TrailParts.{ran, NotRun, Begins, begins, follows_room, same_weight}
 use Rattle.pair_runs.specs.Leaving.{Leaves}
-use Rattle.pair_runs.specs.Linking.{RefusesPiece}
 use Rattle.pair_runs.specs.Moves.{LineInPart}
 use Rattle.pair_runs.specs.Sides.{SideState, fed, asked, seen, side_seen}
-use Rattle.pair_runs.specs.Whys.{Waits, AtMessage, AtItem, Stands, AddsTooMuch, PassesLimit, Why, RefusesLine}
+use Rattle.pair_runs.specs.Whys.{Waits, AtMessage, AtItem, Stands, AddsTooMuch, PassesLimit, Why, RefusesLine, NextBytes, RefusesPiece}
 use Rattle.pair_runs.specs.WorkLaws.{RunsOn, FailsInPart, FedFails, CameFails, AsksFails, HandedFails, UpFails, UpLimits, LendsFails, KeptByFault}
 use Rattle.pair_runs.specs.Working.{Works, InPart, WorksInPart}
-use Rattle.pair_runs.proofs.Calling.{ok_done, fed_base, fed_here, came_base, asks_base, quiet_still}
+use Rattle.pair_runs.proofs.Calling.{ok_done, fault_front, fed_base, fed_here, came_base, asks_base, quiet_still}
 use Rattle.pair_runs.proofs.Composing.{all_then, joined_then, leaves_then, grows_same, grows_then, may_hear, works_same, works_then}
 use Rattle.pair_runs.proofs.Ends.{front_same, front_then}
 use Rattle.pair_runs.proofs.Reasons.{halts_why, heavy_why, item_heavy, item_bars}
 use Rattle.pair_runs.proofs.Rowing.{row_works, stays_quiet}
+use Rattle.pair_runs.proofs.Showing.{treated_so}
 
 -- ---- in part
 
@@ -82,31 +94,31 @@ then_part a b c w p = record {
 abbrev then_waits : (ws ts : List (List ℕ)) (a b : Inlet) → Leaves ws a b → Waits ts b → Waits (ws ++ ts) a
 then_waits ws ts a b l h = record { waits = h.waits; left = leaves_then ws ts l h.left }
 
-then_stands : (ws ts : List (List ℕ)) (a b : Inlet) (book : Book) (index : ℕ) (cause : PeerCause) → Leaves ws a b → Stands None index cause ts b book → Stands None index cause (ws ++ ts) a book
-then_stands ws ts a b book index cause l h = record { told = h.told; index_is = h.index_is; tracked = h.tracked; at = by_place h.at }
+then_stands : (ws ts : List (List ℕ)) (a b : Inlet) (side : Side) (book : Book) (index : ℕ) (cause : PeerCause) → Leaves ws a b → Stands side None index cause ts b book → Stands side None index cause (ws ++ ts) a book
+then_stands ws ts a b side book index cause l h = record { told = h.told; index_is = h.index_is; tracked = h.tracked; at = by_place h.at }
   where
-    by_place : AtMessage h.told.side h.told.story cause ts b ⊎ AtItem h.told.side h.told.story cause ts None → AtMessage h.told.side h.told.story cause (ws ++ ts) a ⊎ AtItem h.told.side h.told.story cause (ws ++ ts) None
+    by_place : AtMessage side h.told.story cause ts b ⊎ AtItem side h.told.story cause ts b None → AtMessage side h.told.story cause (ws ++ ts) a ⊎ AtItem side h.told.story cause (ws ++ ts) a None
     by_place (inl m) = inl (record { behind = then_waits ws ts a b l m.behind; has = m.has })
     by_place (inr i) = absurd (let never : None ≡ Some (inputs.Pipe i.pipe) = i.brought in cc)
 
-then_passes : (ws ts : List (List ℕ)) (a b : Inlet) (book : Book) (which : Limit) → Leaves ws a b → PassesLimit which None ts b book → PassesLimit which None (ws ++ ts) a book
-then_passes ws ts a b book limits.File l h = record { told = h.told; behind = then_waits ws ts a b l h.behind; above = h.above }
-then_passes ws ts a b book limits.Files l h = record { told = h.told; behind = then_waits ws ts a b l h.behind; above = h.above }
-then_passes ws ts a b book limits.Trail l h = record { told = h.told; behind = then_waits ws ts a b l h.behind; mark = h.mark; lawful = h.lawful; comes = h.comes; heavy = h.heavy }
-then_passes ws ts a b book limits.Connections l h = h
-then_passes ws ts a b book limits.Input l h = h
-then_passes ws ts a b book limits.Lines l h = h
+then_passes : (ws ts : List (List ℕ)) (a b : Inlet) (side : Side) (book : Book) (which : Limit) → Leaves ws a b → PassesLimit which side None ts b book → PassesLimit which side None (ws ++ ts) a book
+then_passes ws ts a b side book limits.File l h = record { told = h.told; behind = then_waits ws ts a b l h.behind; above = h.above }
+then_passes ws ts a b side book limits.Files l h = record { told = h.told; behind = then_waits ws ts a b l h.behind; above = h.above }
+then_passes ws ts a b side book limits.Trail l h = record { told = h.told; behind = then_waits ws ts a b l h.behind; mark = h.mark; lawful = h.lawful; comes = h.comes; heavy = h.heavy }
+then_passes ws ts a b side book limits.Connections l h = h
+then_passes ws ts a b side book limits.Input l h = h
+then_passes ws ts a b side book limits.Lines l h = h
 
-then_why : (hears : Bool) (fault : ProxyFault) (ws ts : List (List ℕ)) (a b : Inlet) (book : Book) → Leaves ws a b → Why hears None fault ts b book → Why hears None fault (ws ++ ts) a book
-then_why hears (faults.Frame connection place cause) ws ts a b book l h = h
-then_why hears (faults.Peer index cause) ws ts a b book l h = then_stands ws ts a b book index cause l h
-then_why hears (faults.Limit which) ws ts a b book l h = then_passes ws ts a b book which l h
-then_why hears Memory ws ts a b book l h = tt
+then_why : (hears : Bool) (fault : ProxyFault) (ws ts : List (List ℕ)) (a b : Inlet) (side : Side) (book : Book) → Leaves ws a b → Why side hears None fault ts b book → Why side hears None fault (ws ++ ts) a book
+then_why hears (faults.Frame connection place cause) ws ts a b side book l h = h
+then_why hears (faults.Peer index cause) ws ts a b side book l h = then_stands ws ts a b side book index cause l h
+then_why hears (faults.Limit which) ws ts a b side book l h = then_passes ws ts a b side book which l h
+then_why hears Memory ws ts a b side book l h = tt
 
 pub then_works : (hears : Bool) (fault : ProxyFault) (a b c : SideState) → Works true a b → WorksInPart hears None fault b c → WorksInPart hears None fault a c
 then_works hears fault a b c w p = record {
   part = then_part a b c w p.part;
-  why = then_why hears fault w.took p.part.took a.inside.inlet b.inside.inlet c.book w.inside.inlet p.why;
+  why = then_why hears fault w.took p.part.took a.inside.inlet b.inside.inlet c.book.trail.side c.book w.inside.inlet p.why;
 }
 
 -- ---- where a call came to
@@ -155,6 +167,10 @@ reached_by : (half : ℕ) (hears : Bool) (event : Event) (a : SideState) (old ne
 reached_by half hears event a old new t events c part e =
     reached half a new (step event old.now) t (grown event old.now (closed old.book)) events c.base c.begins.after part e
 
+-- the side is that of the records
+as_side : (hears : Bool) (item : Option PeerIn) (fault : ProxyFault) (took : List (List ℕ)) (all : Inlet) (book : Book) (s : Now) → Follows s book → Why s.side hears item fault took all book → Why book.trail.side hears item fault took all book
+as_side hears item fault took all book s f why = subst (λ (side : Side). Why side hears item fault took all book) (sym f.tells.side_is) why
+
 -- it failed at a fault that was due, or for want of memory
 failed_there : (half : ℕ) (hears : Bool) (item : Option PeerIn) (event : Event) (fault : ProxyFault) (a : SideState) (old new : TrailState) → Called half hears event a old → Fails event fault old new → WorksInPart hears item fault a (side_seen half new)
 failed_there half hears item event fault a old new c d =
@@ -162,10 +178,10 @@ failed_there half hears item event fault a old new c d =
     let r : Reached half a new at = reached_by half hears event a old new at d.events c d.stops.part d.whole.book in
     record {
       part = in_part half a new at r;
-      why = elim d.stops.due [
+      why = as_side hears item fault r.works.took a.inside.inlet (closed new.book) at r.follows (elim d.stops.due [
         | inl halt ↦ halts_why hears item at (closed new.book) r.follows r.works.took a.inside.inlet r.works.inside.inlet fault (still_may hears (step event old.now) at d.events c.may d.stops.part) halt
-        | inr memory ↦ subst (λ (x : ProxyFault). Why hears item x r.works.took a.inside.inlet (closed new.book)) (sym memory) tt
-      ];
+        | inr memory ↦ subst (λ (x : ProxyFault). Why at.side hears item x r.works.took a.inside.inlet (closed new.book)) (sym memory) tt
+      ]);
     }
 
 -- at an event that was due, and too heavy
@@ -185,7 +201,7 @@ heavy_there half hears item event a old new c d t part recorded rest same =
     let more : MOST_WEIGHT < weight (closed new.book).trail + mark_cost (mark_of d.heavy_event at) = omega (arith, same_weight 0 new.book, heavy) in
     record {
       part = in_part half a new at r;
-      why = heavy_why hears item at (closed new.book) r.follows r.works.took a.inside.inlet r.works.inside.inlet d.heavy_event split.1.0 less more;
+      why = as_side hears item LIMIT_TRAIL r.works.took a.inside.inlet (closed new.book) at r.follows (heavy_why hears item at (closed new.book) r.follows r.works.took a.inside.inlet r.works.inside.inlet d.heavy_event split.1.0 less more);
     }
 
 -- at the event from outside
@@ -233,7 +249,7 @@ lacks_there half hears event fault a old new c d = elim d.first [
 ]
 
 no_memory : (hears : Bool) (item : Option PeerIn) (fault : ProxyFault) (a b : SideState) → fault ≡ Memory → InPart a b → WorksInPart hears item fault a b
-no_memory hears item fault a b e part = record { part = part; why = subst (λ (x : ProxyFault). Why hears item x part.took a.inside.inlet b.book) (sym e) tt }
+no_memory hears item fault a b e part = record { part = part; why = subst (λ (x : ProxyFault). Why b.book.trail.side hears item x part.took a.inside.inlet b.book) (sym e) tt }
 
 -- ---- a call that brings an item, or nothing
 
@@ -241,33 +257,33 @@ no_memory hears item fault a b e part = record { part = part; why = subst (λ (x
 record Alone (item : Option PeerIn) (event : Event) (a : SideState) (old : TrailState) : Type 0 where
   same : a.book ≡ closed old.book
   light : line_cost event old.now.live.here ≡ 0
-  bars : (fault : ProxyFault) → barred event old.now ≡ Some fault → Why false item fault [] a.inside.inlet (closed old.book)
-  heavy : MOST_WEIGHT < weight (closed old.book).trail + mark_cost (mark_of event old.now) → AddsTooMuch item [] a.inside.inlet (closed old.book)
+  bars : (fault : ProxyFault) → barred event old.now ≡ Some fault → Why old.book.trail.side false item fault [] a.inside.inlet (closed old.book)
+  heavy : MOST_WEIGHT < weight (closed old.book).trail + mark_cost (mark_of event old.now) → AddsTooMuch old.book.trail.side item [] a.inside.inlet (closed old.book)
 
-at_once : (half : ℕ) (item : Option PeerIn) (fault : ProxyFault) (a : SideState) (old new : TrailState) → a.book ≡ closed old.book → new.book ≡ closed old.book → Why false item fault [] a.inside.inlet (closed old.book) → WorksInPart false item fault a (side_seen half new)
+at_once : (half : ℕ) (item : Option PeerIn) (fault : ProxyFault) (a : SideState) (old new : TrailState) → a.book ≡ closed old.book → new.book ≡ closed old.book → Why old.book.trail.side false item fault [] a.inside.inlet (closed old.book) → WorksInPart false item fault a (side_seen half new)
 at_once half item fault a old new same e why =
     let is : (side_seen half new).book ≡ a.book = ap closed e ∙ sym same in
     let n : Nothing a (side_seen half new) = nothing_took a (side_seen half new) is in
     record {
       part = n.part;
-      why = subst (λ (took : List (List ℕ)). Why false item fault took a.inside.inlet (side_seen half new).book) (sym n.none)
-          (subst (λ (book : Book). Why false item fault [] a.inside.inlet book) (sym (is ∙ same)) why);
+      why = subst (λ (took : List (List ℕ)). Why (side_seen half new).book.trail.side false item fault took a.inside.inlet (side_seen half new).book) (sym n.none)
+          (subst (λ (book : Book). Why book.trail.side false item fault [] a.inside.inlet book) (sym (is ∙ same)) why);
     }
 
 fails_so : (half : ℕ) (item : Option PeerIn) (event : Event) (fault : ProxyFault) (a : SideState) (old new : TrailState) → Called half false event a old → Alone item event a old → FailsSo event fault old new → WorksInPart false item fault a (side_seen half new)
 fails_so half item event fault a old new c k (HeavyAtOnce e d) =
     absurd (omega (arith, d.heavy, k.light, c.begins.weighs, same_weight 0 old.book))
 fails_so half item event fault a old new c k (HeavyThen e d) = elim (stops_there half false item event a old new c d) [
-  | inl first ↦ at_once half item fault a old new k.same first.book (subst (λ (x : ProxyFault). Why false item x [] a.inside.inlet (closed old.book)) (sym e) (k.heavy (omega (arith, first.heavy, same_weight 0 old.book))))
+  | inl first ↦ at_once half item fault a old new k.same first.book (subst (λ (x : ProxyFault). Why old.book.trail.side false item x [] a.inside.inlet (closed old.book)) (sym e) (k.heavy (omega (arith, first.heavy, same_weight 0 old.book))))
   | inr there ↦ subst (λ (x : ProxyFault). WorksInPart false item x a (side_seen half new)) (sym e) there
 ]
 fails_so half item event fault a old new c k (Failed d) = failed_there half false item event fault a old new c d
 fails_so half item event fault a old new c k (FailedAtOnce d) = elim d.because [
   | inl bar ↦ at_once half item fault a old new k.same d.book (k.bars fault bar)
-  | inr memory ↦ at_once half item fault a old new k.same d.book (subst (λ (x : ProxyFault). Why false item x [] a.inside.inlet (closed old.book)) (sym memory) tt)
+  | inr memory ↦ at_once half item fault a old new k.same d.book (subst (λ (x : ProxyFault). Why old.book.trail.side false item x [] a.inside.inlet (closed old.book)) (sym memory) tt)
 ]
 fails_so half item event fault a old new c k (NoMemory d) = elim (lacks_there half false event fault a old new c d) [
-  | inl none ↦ at_once half item fault a old new k.same none (subst (λ (x : ProxyFault). Why false item x [] a.inside.inlet (closed old.book)) (sym d.memory) tt)
+  | inl none ↦ at_once half item fault a old new k.same none (subst (λ (x : ProxyFault). Why old.book.trail.side false item x [] a.inside.inlet (closed old.book)) (sym d.memory) tt)
   | inr some ↦ no_memory false item fault a (side_seen half new) d.memory some
 ]
 
@@ -277,6 +293,17 @@ fails_of event fault old new r calls =
     d.so
 
 -- ---- the calls
+
+-- no whole message waits where a proxy wants more
+still_waits : (s : Now) → next s ≡ Rest → wants_peer s ≡ true → waits_in s.live.sending ≡ false
+still_waits s rests wants = go (waits_in s.live.sending) refl
+  where
+    free : is_free s.live.sending.owes s.kept.ring ≡ true
+    free = (wants_free s wants).1
+
+    go : (b : Bool) → waits_in s.live.sending ≡ b → waits_in s.live.sending ≡ false
+    go false e = e
+    go true e = absurd (let never : true ≡ false = sym free ∙ treated_so s (all_rest s rests).treats e in cc)
 
 -- an item of a pipe changes no inlet, and others are barred by nothing and weigh nothing
 fed_alone : (half : ℕ) (item : PeerIn) (old : TrailState) → Begins old (Fed item) → Alone (Some item) (Fed item) (fed item (side_seen half old)) old
@@ -307,8 +334,12 @@ fed_alone half item old b = by_item item b.admits
     by_item (inputs.Pipe pipe) admits = record {
       same = refl;
       light = refl;
-      bars = λ fault bar. item_bars old.now (closed old.book) b.follows.follows quiet old.now.live.sending.inlet refl (inputs.Pipe pipe) fault bar;
-      heavy = λ heavy. item_heavy old.now (closed old.book) b.follows.follows quiet old.now.live.sending.inlet refl (inputs.Pipe pipe) admits.0 admits.1 b.weighs heavy;
+      bars = λ fault bar.
+          as_side false (Some (inputs.Pipe pipe)) fault [] old.now.live.sending.inlet (closed old.book) old.now b.follows.follows
+          (item_bars old.now (closed old.book) b.follows.follows quiet (still_waits old.now b.runs.rests) admits.0 (inputs.Pipe pipe) fault bar);
+      heavy = λ heavy.
+          as_side false (Some (inputs.Pipe pipe)) LIMIT_TRAIL [] old.now.live.sending.inlet (closed old.book) old.now b.follows.follows
+          (item_heavy old.now (closed old.book) b.follows.follows quiet (still_waits old.now b.runs.rests) (inputs.Pipe pipe) admits.0 admits.1 b.weighs heavy);
     }
 
 pub fed_fails : FedFails
@@ -464,14 +495,62 @@ up_fails half connection fault old new r up calls =
 
 -- ---- room for the front
 
+last_is_frame : (whole : List Frame) (frame : Frame) → AllByRecursion IsFrame (whole ++ frame ∷ []) → IsFrame frame
+last_is_frame [] frame h = h.0
+last_is_frame (other ∷ whole) frame h = last_is_frame whole frame h.1
+
+-- what is left of the frame that is being written
+next_bytes : (token : List ℕ) (side : SideRecord) (up : Here) → here.Stands token side up → (up.front ≡ [] → ⊥) → NextBytes side.lines up.front
+next_bytes token side up st some = by_current st.here_is.current refl st.here_is.is_front
+  where
+    by_current : (current : List Frame) → st.here_is.current ≡ current → IsUnderWay current up.front → NextBytes side.lines up.front
+    by_current current k (inl none) = absurd (some none.1)
+    by_current [] k (inr one) = absurd (omega (arith, one.0))
+    by_current (frame ∷ other ∷ current) k (inr one) = absurd (omega (arith, one.0))
+    by_current (frame ∷ []) k (inr one) =
+        let front_is : st.here_is.part ++ up.front ≡ spelling frame =
+        st.here_is.front_is ∙ ap spellings k ∙ append-nil (spelling frame) in
+        let row : AllByRecursion IsFrame (st.here_is.whole ++ frame ∷ []) =
+        subst (λ (current : List Frame). AllByRecursion IsFrame (st.here_is.whole ++ current)) k
+        (subst (λ (fs : List Frame). AllByRecursion IsFrame fs) (sym st.here_is.row) st.here_is.row_frames) in
+        record {
+          earlier = st.earlier;
+          line = st.line;
+          rows_are = st.lines;
+          sent = st.here_is.whole;
+          frame = frame;
+          is_frame = last_is_frame st.here_is.whole frame row;
+          bytes =
+              ap (λ (bytes : List ℕ). bytes ++ up.front) st.here_is.written_is
+              ∙ append_assoc (spellings st.here_is.whole) st.here_is.part up.front
+              ∙ ap (λ (bytes : List ℕ). spellings st.here_is.whole ++ bytes) front_is;
+          some = omega (arith, ap length front_is, length-append st.here_is.part up.front);
+        }
+
 pub lends_fails : LendsFails
 lends_fails half fault old new r lends =
     let d : NotLent fault old new = subst (λ (it : Option ProxyFault). LendsAfter it (Err fault) old new) r.goes_on lends in
-    (because d.because, ap (λ (s : Now). seen half s new.book) d.now ∙ ap (λ (book : Book). seen half old.now book) d.book)
+    (because d.because d.book, ap (λ (s : Now). seen half s new.book) d.now ∙ ap (λ (book : Book). seen half old.now book) d.book)
   where
-    because : TooHeavyFront fault old ⊎ (fault ≡ Memory) → RefusesPiece fault
-    because (inl heavy) = inl heavy.0
-    because (inr memory) = inr memory
+    heavy_front : (here : Option Here) → old.now.live.here ≡ here → TooHeavyFront fault old → RefusesPiece fault (closed old.book).trail
+    heavy_front None e heavy =
+        let none : front_of old.now ≡ [] = fault_front old.now (r.keeps.runs r.goes_on).fault ∙ ap front_here e in
+        absurd (omega (arith, heavy.1, ap length none, r.keeps.weighs))
+    heavy_front (Some here) e heavy =
+        let on = r.keeps.runs r.goes_on in
+        let is : front_of old.now ≡ here.front = fault_front old.now on.fault ∙ ap front_here e in
+        let side : SideRecord = side_of old.book.trail (places_in on.follows.story) None in
+        let g : GoesOn old.now.token side (accepted_in on.follows.story) here = subst (λ (it : Option Here). LinkFollows old.now.token side (accepted_in on.follows.story) it) e on.follows.link in
+        let most : MOST_WEIGHT < weight old.book.trail + length here.front = omega (arith, heavy.1, ap length is) in
+        inl (record {
+          front = here.front;
+          next = next_bytes old.now.token side here g.stands (λ none. omega (arith, most, ap length none, r.keeps.weighs));
+          refuses = (heavy.0, omega (arith, most, same_weight 0 old.book));
+        })
+
+    because : TooHeavyFront fault old ⊎ (fault ≡ Memory) → new.book ≡ closed old.book → RefusesPiece fault (side_seen half new).book.trail
+    because (inl heavy) e = subst (λ (book : Book). RefusesPiece fault (closed book).trail) (sym e) (heavy_front old.now.live.here refl heavy)
+    because (inr memory) e = inr memory
 
 -- ---- records of a side that has failed
 

@@ -65,11 +65,11 @@ use Rattle.pair_runs.proofs.Refusals.{OnFault, refused_so_by}
 
 -- ---- the story
 
-abbrev pub told_by : (s : Now) (book : Book) → Follows s book → hear s ≡ Rest → Told book
+abbrev pub told_by : (s : Now) (book : Book) → Follows s book → hear s ≡ Rest → Told s.side book
 told_by s book f q =
     let rests : Rests s.token (side_of book.trail (places_in f.story) None) (accepted_in f.story) =
     link_down s.token (side_of book.trail (places_in f.story) None) (accepted_in f.story) s.live.here (is_quiet s q) f.link in
-    record { side = s.side; story = f.story; log = f.log; tells = f.tells; heard = rests.accepts }
+    record { story = f.story; log = f.log; tells = f.tells; heard = rests.accepts }
 
 same_side : (s : Now) (book : Book) → Follows s book → s.live.tables.handles.side ≡ s.side
 same_side s book f = ap (λ (state : LogState). state.tables.handles.side) (sym f.after) ∙ (sound_now s.side f.story f.log).tables.0
@@ -83,7 +83,7 @@ tracked_there s book f = order_is_tracked.tracked s.side f.story f.log ∙ ap (�
 -- ---- a message that is refused
 
 module _ (hears : Bool) (item : Option PeerIn) (s : Now) (book : Book) (f : Follows s book) (took : List (List ℕ)) (all : Inlet) (left : Leaves took all s.live.sending.inlet) where
-  by_message : hear s ≡ Rest → (fault : HalfFault) → turn s.live.tables s.live.sending ≡ turns.Refuses fault → Why hears item (fault_of fault) took all book
+  by_message : hear s ≡ Rest → (fault : HalfFault) → turn s.live.tables s.live.sending ≡ turns.Refuses fault → Why s.side hears item (fault_of fault) took all book
   by_message q (halves.Peer index cause) e =
       let there : OnFault s.live.tables s.live.sending s.live.taking (has_made_close s.kept.closing) (order_in s.side f.story) (tracked_there s book f) (halves.Peer index cause) =
       refused_so_by s.live.tables s.live.sending s.live.taking (has_made_close s.kept.closing) (order_in s.side f.story) (tracked_there s book f) (halves.Peer index cause) e in
@@ -104,7 +104,7 @@ module _ (hears : Bool) (item : Option PeerIn) (s : Now) (book : Book) (f : Foll
           (subst (λ (side : Side). TellsAbove which side (log_state s) s.live.sending.inlet) (same_side s book f)
           (refused_so_by s.live.tables s.live.sending s.live.taking (has_made_close s.kept.closing) (order_in s.side f.story) (tracked_there s book f) (halves.Limit which) e))
 
-      by_which : (which : Limit) → TellsAbove which s.side (now s.side f.story) s.live.sending.inlet → PassesLimit which item took all book
+      by_which : (which : Limit) → TellsAbove which s.side (now s.side f.story) s.live.sending.inlet → PassesLimit which s.side item took all book
       by_which limits.File h = record { told = told_by s book f q; behind = record { waits = s.live.sending.inlet; left = left }; above = h }
       by_which limits.Files h = record { told = told_by s book f q; behind = record { waits = s.live.sending.inlet; left = left }; above = h }
       by_which limits.Trail h = absurd h.above
@@ -115,29 +115,29 @@ module _ (hears : Bool) (item : Option PeerIn) (s : Now) (book : Book) (f : Foll
 
   -- ---- a fault that is due
 
-  pub halts_why : (fault : ProxyFault) → (hears ≡ true) ⊎ (hear s ≡ Rest) → next s ≡ Halt fault → Why hears item fault took all book
+  pub halts_why : (fault : ProxyFault) → (hears ≡ true) ⊎ (hear s ≡ Rest) → next s ≡ Halt fault → Why s.side hears item fault took all book
   unfolding next work
   halts_why fault may h = by_hear (or_next_halt (hear s) (work s) fault h)
     where
-      by_end : (end s ≡ Halt fault) ⊎ ((end s ≡ Rest) × (choose s ≡ Halt fault)) → Why hears item fault took all book
+      by_end : (end s ≡ Halt fault) ⊎ ((end s ≡ Rest) × (choose s ≡ Halt fault)) → Why s.side hears item fault took all book
       by_end (inl e) = absurd (no_halt_in_end s fault e)
       by_end (inr e) = absurd (no_halt_in_choose s fault e.1)
 
-      by_treat : hear s ≡ Rest → (treat s ≡ Halt fault) ⊎ ((treat s ≡ Rest) × (or_next (end s) (choose s) ≡ Halt fault)) → Why hears item fault took all book
+      by_treat : hear s ≡ Rest → (treat s ≡ Halt fault) ⊎ ((treat s ≡ Rest) × (or_next (end s) (choose s) ≡ Halt fault)) → Why s.side hears item fault took all book
       by_treat q (inl e) =
           let t : TurnRefused s fault = turn_refused s fault e in
-          subst (λ (x : ProxyFault). Why hears item x took all book) (sym t.is) (by_message q t.cause t.refuses)
+          subst (λ (x : ProxyFault). Why s.side hears item x took all book) (sym t.is) (by_message q t.cause t.refuses)
       by_treat q (inr e) = by_end (or_next_halt (end s) (choose s) fault e.1)
 
-      by_group : hear s ≡ Rest → (group s ≡ Halt fault) ⊎ ((group s ≡ Rest) × (or_next (treat s) (or_next (end s) (choose s)) ≡ Halt fault)) → Why hears item fault took all book
+      by_group : hear s ≡ Rest → (group s ≡ Halt fault) ⊎ ((group s ≡ Rest) × (or_next (treat s) (or_next (end s) (choose s)) ≡ Halt fault)) → Why s.side hears item fault took all book
       by_group q (inl e) = absurd (no_halt_in_group s fault e)
       by_group q (inr e) = by_treat q (or_next_halt (treat s) (or_next (end s) (choose s)) fault e.1)
 
-      by_frame : hear s ≡ Halt fault → (hears ≡ true) ⊎ (hear s ≡ Rest) → Why hears item fault took all book
-      by_frame e (inl hearing) = subst (λ (x : ProxyFault). Why hears item x took all book) (sym (frame_refused s fault e).is) hearing
+      by_frame : hear s ≡ Halt fault → (hears ≡ true) ⊎ (hear s ≡ Rest) → Why s.side hears item fault took all book
+      by_frame e (inl hearing) = subst (λ (x : ProxyFault). Why s.side hears item x took all book) (sym (frame_refused s fault e).is) hearing
       by_frame e (inr quiet) = absurd (let never : Halt fault ≡ Rest = sym e ∙ quiet in cc)
 
-      by_hear : (hear s ≡ Halt fault) ⊎ ((hear s ≡ Rest) × (work s ≡ Halt fault)) → Why hears item fault took all book
+      by_hear : (hear s ≡ Halt fault) ⊎ ((hear s ≡ Rest) × (work s ≡ Halt fault)) → Why s.side hears item fault took all book
       by_hear (inl e) = by_frame e may
       by_hear (inr e) = by_group e.0 (or_next_halt (group s) (or_next (treat s) (or_next (end s) (choose s))) fault e.1)
 
@@ -155,7 +155,7 @@ module _ (hears : Bool) (item : Option PeerIn) (s : Now) (book : Book) (f : Foll
   abbrev Heavy : Option Mark → Type 0
   Heavy mark = MOST_WEIGHT < weight book.trail + mark_cost mark
 
-  takes_heavy : hear s ≡ Rest → (it : Treated) → turn s.live.tables s.live.sending ≡ turns.Takes it → Heavy (Some (taken_mark it)) → AddsTooMuch item took all book
+  takes_heavy : hear s ≡ Rest → (it : Treated) → turn s.live.tables s.live.sending ≡ turns.Takes it → Heavy (Some (taken_mark it)) → AddsTooMuch s.side item took all book
   takes_heavy q it e heavy =
       let t : IsTaken s.live.tables s.live.sending s.live.taking it = turn_is_lawful s.live.tables s.live.sending s.live.taking it e in
       let before : now s.side f.story ≡ log_of s.live.tables s.live.sending s.live.taking false = f.after ∙ ap (log_of s.live.tables s.live.sending s.live.taking) (not_made_yet it e s.kept.closing refl) in
@@ -168,7 +168,7 @@ module _ (hears : Bool) (item : Option PeerIn) (s : Now) (book : Book) (f : Foll
         heavy = heavy;
       }
 
-  group_heavy : hear s ≡ Rest → (made : MadeGroup) → group_due s.live.sending.owes s.kept.jobs ≡ Some made → Heavy (Some (marks.Grouped made.frames made.copies)) → AddsTooMuch item took all book
+  group_heavy : hear s ≡ Rest → (made : MadeGroup) → group_due s.live.sending.owes s.kept.jobs ≡ Some made → Heavy (Some (marks.Grouped made.frames made.copies)) → AddsTooMuch s.side item took all book
   group_heavy q made e heavy =
       let o : Owing s made = owing s book f made e in
       let owes : (now s.side f.story).owes ≡ Some o.owed = ap (λ (state : LogState). state.owes) f.after ∙ o.owes in
@@ -181,7 +181,7 @@ module _ (hears : Bool) (item : Option PeerIn) (s : Now) (book : Book) (f : Foll
         heavy = heavy;
       }
 
-  close_heavy : hear s ≡ Rest → (reason : ℕ) → s.kept.closing ≡ Asked reason → s.live.sending.owes ≡ None → Heavy (Some (marks.Grouped (frames.Close reason ∷ []) [])) → AddsTooMuch item took all book
+  close_heavy : hear s ≡ Rest → (reason : ℕ) → s.kept.closing ≡ Asked reason → s.live.sending.owes ≡ None → Heavy (Some (marks.Grouped (frames.Close reason ∷ []) [])) → AddsTooMuch s.side item took all book
   close_heavy q reason asked none heavy =
       let word : IsWord reason = subst (λ (c : Closing). ClosingFollows c (is_none s.live.sending.owes) (waits_in s.live.sending)) asked f.closes in
       let is_frame : IsFrame (frames.Close reason) = record { fields = word; fits = omega (arith, length-word_bytes reason) } in
@@ -199,10 +199,10 @@ module _ (hears : Bool) (item : Option PeerIn) (s : Now) (book : Book) (f : Foll
       }
 
   -- an event that is due
-  pub heavy_why : (event : Event) → next s ≡ Do event → weight book.trail ≤ MOST_WEIGHT → Heavy (mark_of event s) → AddsTooMuch item took all book
+  pub heavy_why : (event : Event) → next s ≡ Do event → weight book.trail ≤ MOST_WEIGHT → Heavy (mark_of event s) → AddsTooMuch s.side item took all book
   heavy_why event d w heavy = by_phase (due_in s event d)
     where
-      by_phase : DueIn s event → AddsTooMuch item took all book
+      by_phase : DueIn s event → AddsTooMuch s.side item took all book
       by_phase (InHear h) =
           let nothing : mark_cost (mark_of event s) ≡ 0 = ap (λ (v : Event). mark_cost (mark_of v s)) (frame_due s event h).is in
           absurd (omega (arith, nothing, w, heavy))
@@ -238,14 +238,14 @@ alone_of state item (frames.Ack count) h = h
 alone_of state item (frames.Restart token connection received) h = h
 alone_of state item (frames.Close reason) h = tt
 
-module _ (s : Now) (book : Book) (f : Follows s book) (q : hear s ≡ Rest) (all : Inlet) (same : s.live.sending.inlet ≡ all) where
-  nothing_left : Leaves [] all s.live.sending.inlet
-  nothing_left = subst (λ (waits : Inlet). Leaves [] waits s.live.sending.inlet) same (leaves_same s.live.sending.inlet)
+module _ (s : Now) (book : Book) (f : Follows s book) (q : hear s ≡ Rest) (calm : (wants_peer s ≡ true) → waits_in s.live.sending ≡ false) where
+  abbrev all : Inlet
+  all = s.live.sending.inlet
 
   -- the frame of an item of a pipe is too heavy
   makes_heavy : (pipe : PipeItem) → wants_peer s ≡ true → IsItem (inputs.Pipe pipe) → weight book.trail ≤ MOST_WEIGHT
       → (it : PipeTurn) → pipe_turn s.live.tables s.live.taking pipe ≡ it → MOST_WEIGHT < weight book.trail + mark_cost (mark_pipe pipe it)
-      → AddsTooMuch (Some (inputs.Pipe pipe)) [] all book
+      → AddsTooMuch s.side (Some (inputs.Pipe pipe)) [] all book
   makes_heavy pipe wants piece w pipes.Barred e heavy = absurd (omega (arith, w, heavy))
   makes_heavy (pieces.Bytes rid bytes) wants piece w (pipes.Drops tables) e heavy = absurd (omega (arith, w, heavy))
   makes_heavy (pieces.End rid) wants piece w (pipes.Drops tables) e heavy = absurd (omega (arith, w, heavy))
@@ -264,7 +264,7 @@ module _ (s : Now) (book : Book) (f : Follows s book) (q : hear s ≡ Rest) (all
       } in
       record {
         told = told_by s book f q;
-        behind = record { waits = s.live.sending.inlet; left = nothing_left };
+        behind = record { waits = s.live.sending.inlet; left = leaves_same s.live.sending.inlet };
         mark = marks.Grouped (frame ∷ []) [];
         lawful = subst (λ (state : LogState). Lawful state (marks.Grouped (frame ∷ []) [])) (sym before) lawful.0;
         comes =
@@ -273,7 +273,7 @@ module _ (s : Now) (book : Book) (f : Follows s book) (q : hear s ≡ Rest) (all
         heavy = heavy;
       }
 
-  pub item_heavy : (item : PeerIn) → wants_peer s ≡ true → IsItem item → weight book.trail ≤ MOST_WEIGHT → MOST_WEIGHT < weight book.trail + mark_cost (mark_of (Fed item) s) → AddsTooMuch (Some item) [] all book
+  pub item_heavy : (item : PeerIn) → wants_peer s ≡ true → IsItem item → weight book.trail ≤ MOST_WEIGHT → MOST_WEIGHT < weight book.trail + mark_cost (mark_of (Fed item) s) → AddsTooMuch s.side (Some item) [] all book
   item_heavy (inputs.Bytes bytes) wants piece w heavy = absurd (omega (arith, w, heavy))
   item_heavy (inputs.Handle handle) wants piece w heavy = absurd (omega (arith, w, heavy))
   item_heavy (inputs.Note note) wants piece w heavy = absurd (omega (arith, w, heavy))
@@ -294,21 +294,21 @@ module _ (s : Now) (book : Book) (f : Follows s book) (q : hear s ≡ Rest) (all
       by_known true k d = k
       by_known false k d = absurd (never (frame_of_item s.live.tables.pipes it) d)
 
-  pipe_bars : (pipe : PipeItem) (fault : ProxyFault) (it : PipeTurn) → pipe_turn s.live.tables s.live.taking pipe ≡ it → barred_pipe s.live.sending.taken it ≡ Some fault → Why false (Some (inputs.Pipe pipe)) fault [] all book
-  pipe_bars pipe fault pipes.Barred e d =
+  pipe_bars : wants_peer s ≡ true → (pipe : PipeItem) (fault : ProxyFault) (it : PipeTurn) → pipe_turn s.live.tables s.live.taking pipe ≡ it → barred_pipe s.live.sending.taken it ≡ Some fault → Why s.side false (Some (inputs.Pipe pipe)) fault [] all book
+  pipe_bars wants pipe fault pipes.Barred e d =
       let is : faults.Peer s.live.sending.taken PipeUnknown ≡ fault = cc in
       let unknown : IsUnknown (log_state s) pipe = unknown_named pipe (item_by_rid s.live.tables.handles s.live.taking.held pipe) e in
-      subst (λ (x : ProxyFault). Why false (Some (inputs.Pipe pipe)) x [] all book) is (record {
+      subst (λ (x : ProxyFault). Why s.side false (Some (inputs.Pipe pipe)) x [] all book) is (record {
         told = told_by s book f q;
         index_is = f.taken;
         tracked = order_is_tracked.tracked s.side f.story f.log;
-        at = inr (record { pipe = pipe; brought = refl; cause_is = refl; none = refl; unknown = subst (λ (state : LogState). IsUnknown state pipe) (sym f.after) unknown });
+        at = inr (record { pipe = pipe; brought = refl; cause_is = refl; none = refl; still = calm wants; unknown = subst (λ (state : LogState). IsUnknown state pipe) (sym f.after) unknown });
       })
-  pipe_bars pipe fault (pipes.Drops tables) e d = absurd cc
-  pipe_bars pipe fault (pipes.Makes frame tables) e d = absurd cc
+  pipe_bars wants pipe fault (pipes.Drops tables) e d = absurd cc
+  pipe_bars wants pipe fault (pipes.Makes frame tables) e d = absurd cc
 
-  pub item_bars : (item : PeerIn) (fault : ProxyFault) → barred (Fed item) s ≡ Some fault → Why false (Some item) fault [] all book
-  item_bars (inputs.Bytes bytes) fault d = absurd cc
-  item_bars (inputs.Handle handle) fault d = absurd cc
-  item_bars (inputs.Note note) fault d = absurd cc
-  item_bars (inputs.Pipe pipe) fault d = pipe_bars pipe fault (pipe_turn s.live.tables s.live.taking pipe) refl d
+  pub item_bars : wants_peer s ≡ true → (item : PeerIn) (fault : ProxyFault) → barred (Fed item) s ≡ Some fault → Why s.side false (Some item) fault [] all book
+  item_bars wants (inputs.Bytes bytes) fault d = absurd cc
+  item_bars wants (inputs.Handle handle) fault d = absurd cc
+  item_bars wants (inputs.Note note) fault d = absurd cc
+  item_bars wants (inputs.Pipe pipe) fault d = pipe_bars wants pipe fault (pipe_turn s.live.tables s.live.taking pipe) refl d

@@ -1,12 +1,10 @@
 -- How bytes go from a side onto the line and from the line into a side; this project's own.
 use Rattle.std.specs.Prelude.{◌≡◌, ◌≢◌, ℕ, ◌≤◌, true, List, [], ◌∷◌, ◌++◌, take, length}
 use Rattle.std.specs.Prelude.{None, ◌⊎◌}
-use Rattle.half_model.specs.declared.causes.Limit.TheVariants.{Trail}
 use Rattle.pair_model.specs.Lines.{Line}
 use Rattle.pair_model.specs.Quiet.{NoFront}
 use Rattle.pair_model.specs.Steps.{on_last, with_written, with_read}
 use Rattle.side_model.specs.declared.fault.ProxyFault.{ProxyFault}
-use Rattle.side_model.specs.declared.fault.ProxyFault.TheVariants.{Limit, Memory}
 use Rattle.side_model.specs.Sound.{MOST_PIECE}
 use Rattle.pair_runs.specs.Sides.{SideState, TOKEN, rows_of, on_rows, last_number, link_record}
 use Rattle.pair_runs.specs.Whys.{RefusesMore}
@@ -47,10 +45,6 @@ read bytes it = on_rows (on_last (with_read bytes)) it
 abbrev pub Reads : List ℕ → SideState → SideState → Type 0
 Reads [] a b = b ≡ a
 Reads (byte ∷ bytes) a b = (rows_of a ≢ []) × Works true (read (byte ∷ bytes) a) b
-
--- the two faults for which bytes of the front are not lent
-abbrev pub RefusesPiece : ProxyFault → Type 0
-RefusesPiece fault = (fault ≡ Limit Trail) ⊎ (fault ≡ Memory)
 
 -- Bytes of these are pulled up to a fault; those of the last piece may be refused.
 pub record ReadsInPart (bytes : List ℕ) (fault : ProxyFault) (pulled : List ℕ) (a b : SideState)

@@ -12,13 +12,12 @@ use Rattle.side_model.specs.declared.fault.ProxyFault.{ProxyFault}
 use Rattle.side_model.specs.Shows.{is_empty}
 use Rattle.pair_runs.specs.Kept.{Kept}
 use Rattle.pair_runs.specs.Linking.{with_line, Writes, WritesInPart, Reads, ReadsInPart}
-use Rattle.pair_runs.specs.Linking.{RefusesPiece}
 use Rattle.pair_runs.specs.Loading.{Loads, LoadsAll}
 use Rattle.pair_runs.specs.Sides.{SideState, asked, ring_in}
 use Rattle.pair_runs.specs.States.{State, Lanes, Fault, no_lanes, side_at, with_side, wire_at}
 use Rattle.pair_runs.specs.States.{with_wire, lane_at, on_lane, writer, reader, connections}
 use Rattle.pair_runs.specs.Taking.{Taker, TakesAll}
-use Rattle.pair_runs.specs.Whys.{RefusesLine}
+use Rattle.pair_runs.specs.Whys.{RefusesLine, RefusesPiece}
 use Rattle.pair_runs.specs.Working.{Works, WorksInPart}
 
 -- one thing that moves; counts of bytes and of words are the greatest ones
@@ -115,7 +114,8 @@ Connected makes s t stop = ConnectedBy (is_none s.line && makes) s t stop
 -- bytes of the side that writes are put at the end of a lane, if a connection is up
 abbrev pub WritesBy : Option ProxyFault → ℕ → List ℕ → SideState → SideState → Type 0
 WritesBy None most bytes a b = Writes most bytes a b
-WritesBy (Some fault) most bytes a b = WritesInPart most bytes a b × RefusesPiece fault
+WritesBy (Some fault) most bytes a b =
+    WritesInPart most bytes a b × RefusesPiece fault b.book.trail
 
 abbrev pub PushedOn : Option Lanes → Direction → ℕ → State → State → Option Fault → Type 0
 PushedOn None dir most s t stop = (t ≡ s) × (stop ≡ None)

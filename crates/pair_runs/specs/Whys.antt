@@ -1,7 +1,7 @@
 -- Why a call of a side meets its fault: what the fault tells of the message or the item that its
 -- peer put, and of its records. Messages are Wayland's, all else is this project's own.
-use Rattle.std.specs.Prelude.{◌≡◌, ℕ, ◌+◌, ◌<◌, Bool, true, List, [], ◌∷◌, length, Option, Some}
-use Rattle.std.specs.Prelude.{None, Ok, ◌⊎◌}
+use Rattle.std.specs.Prelude.{◌≡◌, ℕ, ◌+◌, ◌<◌, ◌≤◌, Bool, true, false, List, []}
+use Rattle.std.specs.Prelude.{◌∷◌, ◌++◌, length, Option, Some, None, Ok, ◌⊎◌}
 use Rattle.wp_outside.specs.declared.kinds.Side.{Side}
 use Rattle.wp_outside.specs.declared.pipe_items.PipeItem.{PipeItem}
 use Rattle.wl_wire.specs.Wire.{first}
@@ -9,6 +9,7 @@ use Rattle.wl_objects.specs.Entries.{first_objects}
 use Rattle.wl_objects.specs.Tracking.{track}
 use Rattle.transfer_frames.specs.declared.frame.Frame.{Frame}
 use Rattle.transfer_frames.specs.declared.frame.Frame.TheVariants as frames
+use Rattle.transfer_frames.specs.Grammar.{IsFrame, spelling}
 use Rattle.half_model.specs.declared.causes.Limit.{Limit}
 use Rattle.half_model.specs.declared.causes.Limit.TheVariants as limits
 use Rattle.half_model.specs.declared.causes.PeerCause.{PeerCause}
@@ -23,6 +24,9 @@ use Rattle.half_model.specs.PipeTurn.{Makes, pipe_turn}
 use Rattle.half_model.specs.Story.{order_in, accepted_in}
 use Rattle.half_model.specs.StoryLaws.{now, IsStory}
 use Rattle.half_model.specs.Tables.{Tables}
+use Rattle.half_model.specs.Turn.{stands_in}
+use Rattle.pair_model.specs.Lines.{Line}
+use Rattle.pair_model.specs.Rows.{spellings}
 use Rattle.pair_model.specs.Wire.{Accepts}
 use Rattle.side_model.specs.declared.fault.ProxyFault.{ProxyFault}
 use Rattle.side_model.specs.declared.fault.ProxyFault.TheVariants as faults
@@ -34,8 +38,7 @@ use Rattle.pair_runs.specs.Causes.{MessageHas, IsUnknown, TellsAbove}
 use Rattle.pair_runs.specs.Leaving.{Leaves}
 
 -- A story that the records of a side tell: the frames that it heard are those of the bytes read.
-pub record Told (book : Book) : Type 0 where
-  pub side : Side
+pub record Told (side : Side) (book : Book) : Type 0 where
   pub story : List Mark
   pub log : IsStory side story
   pub tells : TellsStory side story book
@@ -54,34 +57,35 @@ pub record AtMessage (side : Side) (story : List Mark) (cause : PeerCause) (took
   pub behind : Waits took all
   pub has : MessageHas side story behind.waits cause
 
--- or the item that the call brought has it, before which no more was taken
+-- or the item that the call brought has it, before which no more was taken, nor is there more that
+-- might be
 pub record AtItem (side : Side) (story : List Mark) (cause : PeerCause) (took : List (List ℕ))
-    (item : Option PeerIn) : Type 0 where
+    (all : Inlet) (item : Option PeerIn) : Type 0 where
   pub pipe : PipeItem
   pub brought : item ≡ Some (inputs.Pipe pipe)
   pub cause_is : cause ≡ PipeUnknown
   pub none : took ≡ []
+  pub still : stands_in (first all.bytes) ≡ false
   pub unknown : IsUnknown (now side story) pipe
 
 -- The cause stands at the index: the whole order of passing is tracked, as many of the peer's
 -- messages were taken as the index says, and the next one, or the item, has the cause.
-pub record Stands (item : Option PeerIn) (index : ℕ) (cause : PeerCause) (took : List (List ℕ))
-    (all : Inlet) (book : Book) : Type 0 where
-  pub told : Told book
+pub record Stands (side : Side) (item : Option PeerIn) (index : ℕ) (cause : PeerCause)
+    (took : List (List ℕ)) (all : Inlet) (book : Book) : Type 0 where
+  pub told : Told side book
   pub index_is : index ≡ length book.trail.taken
-  pub tracked : track first_objects (order_in told.side told.story)
-      ≡ Ok (now told.side told.story).tables.objects.tracked
-  pub at : AtMessage told.side told.story cause took all
-      ⊎ AtItem told.side told.story cause took item
+  pub tracked : track first_objects (order_in side told.story)
+      ≡ Ok (now side told.story).tables.objects.tracked
+  pub at : AtMessage side told.story cause took all ⊎ AtItem side told.story cause took all item
 
 -- ---- a limit
 
 -- the message behind those that were taken tells a size above its limit
-pub record TellsTooMuch (which : Limit) (took : List (List ℕ)) (all : Inlet) (book : Book)
-    : Type 0 where
-  pub told : Told book
+pub record TellsTooMuch (which : Limit) (side : Side) (took : List (List ℕ)) (all : Inlet)
+    (book : Book) : Type 0 where
+  pub told : Told side book
   pub behind : Waits took all
-  pub above : TellsAbove which told.side (now told.side told.story) behind.waits
+  pub above : TellsAbove which side (now side told.story) behind.waits
 
 -- a frame that is made alone is CLOSE, or is that of the item
 pub record MadeOf (state : LogState) (item : Option PeerIn) (frame : Frame) : Type 0 where
@@ -108,31 +112,32 @@ ComesNext state item waits (marks.Grouped frames copies) = IsMade state state.ow
 ComesNext state item waits mark = ⊥
 
 -- what would be recorded next is too heavy
-pub record AddsTooMuch (item : Option PeerIn) (took : List (List ℕ)) (all : Inlet) (book : Book)
-    : Type 0 where
-  pub told : Told book
+pub record AddsTooMuch (side : Side) (item : Option PeerIn) (took : List (List ℕ)) (all : Inlet)
+    (book : Book) : Type 0 where
+  pub told : Told side book
   pub behind : Waits took all
   pub mark : Mark
-  pub lawful : Lawful (now told.side told.story) mark
-  pub comes : ComesNext (now told.side told.story) item behind.waits mark
+  pub lawful : Lawful (now side told.story) mark
+  pub comes : ComesNext (now side told.story) item behind.waits mark
   pub heavy : MOST_WEIGHT < weight book.trail + mark_cost (Some mark)
 
-abbrev pub PassesLimit : Limit → Option PeerIn → List (List ℕ) → Inlet → Book → Type 0
-PassesLimit limits.File item took all book = TellsTooMuch limits.File took all book
-PassesLimit limits.Files item took all book = TellsTooMuch limits.Files took all book
-PassesLimit limits.Trail item took all book = AddsTooMuch item took all book
-PassesLimit which item took all book = ⊥
+abbrev pub PassesLimit : Limit → Side → Option PeerIn → List (List ℕ) → Inlet → Book → Type 0
+PassesLimit limits.File side item took all book = TellsTooMuch limits.File side took all book
+PassesLimit limits.Files side item took all book = TellsTooMuch limits.Files side took all book
+PassesLimit limits.Trail side item took all book = AddsTooMuch side item took all book
+PassesLimit which side item took all book = ⊥
 
 -- ---- any fault
 
--- Why a call meets a fault, where it took these messages of all that waited and leaves these
--- records. Only a call that may hear frames refuses one; for which cause, the law of the records
--- says. Memory may run out anywhere.
-abbrev pub Why : Bool → Option PeerIn → ProxyFault → List (List ℕ) → Inlet → Book → Type 0
-Why hears item (faults.Frame connection place cause) took all book = hears ≡ true
-Why hears item (faults.Peer index cause) took all book = Stands item index cause took all book
-Why hears item (faults.Limit which) took all book = PassesLimit which item took all book
-Why hears item faults.Memory took all book = Unit {0}
+-- Why a call of a side meets a fault, where it took these messages of all that waited and leaves
+-- these records. Only a call that may hear frames refuses one; for which cause, the law of the
+-- records says. Memory may run out anywhere.
+abbrev pub Why : Side → Bool → Option PeerIn → ProxyFault → List (List ℕ) → Inlet → Book → Type 0
+Why side hears item (faults.Frame connection place cause) took all book = hears ≡ true
+Why side hears item (faults.Peer index cause) took all book =
+    Stands side item index cause took all book
+Why side hears item (faults.Limit which) took all book = PassesLimit which side item took all book
+Why side hears item faults.Memory took all book = Unit {0}
 
 -- ---- what is refused at once
 
@@ -147,3 +152,23 @@ abbrev pub RefusesLine : ℕ → ProxyFault → TrailRecord → Type 0
 RefusesLine connection fault trail =
     ((fault ≡ faults.Limit limits.Connections) × (MOST_CONNECTIONS < connection))
     ⊎ RefusesMore ITEM_WEIGHT fault trail
+
+-- the bytes of the frame that is being written on the last connection which are not written yet
+pub record NextBytes (rows : List Line) (front : List ℕ) : Type 0 where
+  pub earlier : List Line
+  pub line : Line
+  pub rows_are : rows ≡ earlier ++ line ∷ []
+  pub sent : List Frame
+  pub frame : Frame
+  pub is_frame : IsFrame frame
+  pub bytes : line.written ++ front ≡ spellings sent ++ spelling frame
+  pub some : length front ≤ length (spelling frame)
+
+-- they are not lent to be written
+pub record RefusesFront (fault : ProxyFault) (trail : TrailRecord) : Type 0 where
+  pub front : List ℕ
+  pub next : NextBytes trail.lines.rows front
+  pub refuses : (fault ≡ faults.Limit limits.Trail) × (MOST_WEIGHT < weight trail + length front)
+
+abbrev pub RefusesPiece : ProxyFault → TrailRecord → Type 0
+RefusesPiece fault trail = RefusesFront fault trail ⊎ (fault ≡ faults.Memory)

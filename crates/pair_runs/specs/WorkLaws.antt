@@ -19,11 +19,11 @@ use Rattle.side_model.specs.Shows.{wants_peer, next_item, front_of}
 use Rattle.side_model.specs.Sound.{Admits}
 use Rattle.side_model.specs.Trails.{TrailState, Keeps, TrailCalls, trail_step, Sends, Lends}
 use Rattle.pair_runs.specs.Kept.{GoesOn, HasFailed}
-use Rattle.pair_runs.specs.Linking.{with_line, written, read, RefusesPiece}
+use Rattle.pair_runs.specs.Linking.{with_line, written, read}
 use Rattle.pair_runs.specs.Moves.{LineInPart}
 use Rattle.pair_runs.specs.Sides.{SideState, TOKEN, fed, asked, all_loaded, wants, side_seen}
 use Rattle.pair_runs.specs.Sides.{rows_of, last_number, link_record}
-use Rattle.pair_runs.specs.Whys.{RefusesMore, RefusesLine}
+use Rattle.pair_runs.specs.Whys.{RefusesMore, RefusesLine, RefusesPiece}
 use Rattle.pair_runs.specs.Working.{Works, InPart, WorksInPart}
 
 -- a proxy that runs on
@@ -157,7 +157,8 @@ pub record UpLimits : Type 0 where
 abbrev pub LendsFails : Type 0
 LendsFails = (half : ℕ) (fault : ProxyFault) (old new : TrailState) → RunsOn old
     → Lends (Err fault) old new
-    → RefusesPiece fault × (side_seen half new ≡ side_seen half old)
+    → RefusesPiece fault (side_seen half new).book.trail
+    × (side_seen half new ≡ side_seen half old)
 
 -- the records of a side that has failed are lawful
 abbrev pub KeptByFault : Type 0

@@ -63,4 +63,4 @@ pub record InPart (a b : SideState) : Type 0 where
 pub record WorksInPart (hears : Bool) (item : Option PeerIn) (fault : ProxyFault) (a b : SideState)
     : Type 0 where
   pub part : InPart a b
-  pub why : Why hears item fault part.took a.inside.inlet b.book
+  pub why : Why b.book.trail.side hears item fault part.took a.inside.inlet b.book
