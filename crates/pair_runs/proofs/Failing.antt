@@ -39,14 +39,14 @@ use Rattle.side_model.specs.Steps.{step}
 use Rattle.side_model.specs.Trails.{TrailState, step_all, FailsNow, FailsSo, HeavyAtOnce, HeavyThen, Failed, FailedAtOnce, NoMemory, StopsRecording, Fails, LacksMemory, TrailAfter, TrailCalls, NotLent, TooHeavyFront, LendsAfter, Begun, LIMIT_TRAIL}
 use Rattle.side_model.proofs.Calms.{up_rests}
 use Rattle.side_model.proofs.Dues.{due_in, all_rest}
-use Rattle.side_model.proofs.Parts.{part_at, FollowsOn, follows_part}
+use Rattle.side_model.proofs.Parts.{part_at, same_part, same_step, FollowsOn, follows_part}
 use Rattle.side_model.proofs.RowProofs.{none_after}
 use Rattle.side_model.proofs.Sounds.{wants_free}
 use Rattle.side_model.proofs.TrailDone.{whole_weighs}
 use Rattle.side_model.proofs.TrailParts.{ran, NotRun, Begins, begins, follows_room, same_weight}
 use Rattle.pair_runs.specs.Leaving.{Leaves}
 use Rattle.pair_runs.specs.Moves.{LineInPart}
-use Rattle.pair_runs.specs.Sides.{SideState, fed, asked, seen, side_seen}
+use Rattle.pair_runs.specs.Sides.{SideState, TOKEN, fed, asked, seen, side_seen}
 use Rattle.pair_runs.specs.Whys.{Waits, AtMessage, AtItem, Stands, AddsTooMuch, PassesLimit, Why, RefusesLine, NextBytes, RefusesPiece}
 use Rattle.pair_runs.specs.WorkLaws.{RunsOn, FailsInPart, FedFails, CameFails, AsksFails, HandedFails, UpFails, UpLimits, LendsFails, KeptByFault}
 use Rattle.pair_runs.specs.Working.{Works, InPart, WorksInPart}
@@ -127,6 +127,7 @@ then_works hears fault a b c w p = record {
 record Reached (half : ℕ) (a : SideState) (new : TrailState) (at : Now) : Type 0 where
   works : Works true a (seen half at new.book)
   follows : Follows at (closed new.book)
+  token : at.token ≡ TOKEN
 
 abbrev in_part : (half : ℕ) (a : SideState) (new : TrailState) (at : Now) → Reached half a new at → InPart a (side_seen half new)
 in_part half a new at r = record {
@@ -137,13 +138,14 @@ in_part half a new at r = record {
   order = r.works.order;
 }
 
-reached : (half : ℕ) (a : SideState) (new : TrailState) (s t : Now) (book : Book) (events : List Event) → Works true a (seen half s book) → FollowsOn s book → Part s events t → new.book ≡ grow_all events s book → Reached half a new t
-reached half a new s t book events w f part e =
+reached : (half : ℕ) (a : SideState) (new : TrailState) (s t : Now) (book : Book) (events : List Event) → Works true a (seen half s book) → FollowsOn s book → s.token ≡ TOKEN → Part s events t → new.book ≡ grow_all events s book → Reached half a new t
+reached half a new s t book events w f k part e =
     let row : Works true a (seen half t (grow_all events s book)) = works_then true a (seen half s book) (seen half t (grow_all events s book)) w (row_works half s t book events part) in
     let after : FollowsOn t (grow_all events s book) = follows_part s t book events f part in
     record {
       works = subst (λ (b : Book). Works true a (seen half t b)) (sym e) row;
       follows = subst (λ (b : Book). Follows t (closed b)) (sym e) (follows_room 0 t (grow_all events s book) after.follows);
+      token = (same_part s t events part).token ∙ k;
     }
 
 -- no frame is heard along a row behind which none was to be heard
@@ -156,6 +158,7 @@ quiet_end s t (x ∷ xs) q p = quiet_end (step x s) t xs (stays_quiet x s q (due
 -- what is known of a call: what it does at first, and that it may hear frames or hears none
 record Called (half : ℕ) (hears : Bool) (event : Event) (a : SideState) (old : TrailState) : Type 0 where
   begins : Begins old event
+  token : old.now.token ≡ TOKEN
   base : Works true a (seen half (step event old.now) (grown event old.now (closed old.book)))
   may : (hears ≡ true) ⊎ (hear (step event old.now) ≡ Rest)
 
@@ -165,7 +168,7 @@ still_may hears s t events (inr quiet) p = inr (quiet_end s t events quiet p)
 
 reached_by : (half : ℕ) (hears : Bool) (event : Event) (a : SideState) (old new : TrailState) (t : Now) (events : List Event) → Called half hears event a old → Part (step event old.now) events t → new.book ≡ grow_all (event ∷ events) old.now (closed old.book) → Reached half a new t
 reached_by half hears event a old new t events c part e =
-    reached half a new (step event old.now) t (grown event old.now (closed old.book)) events c.base c.begins.after part e
+    reached half a new (step event old.now) t (grown event old.now (closed old.book)) events c.base c.begins.after ((same_step event old.now).token ∙ c.token) part e
 
 -- the side is that of the records
 as_side : (hears : Bool) (item : Option PeerIn) (fault : ProxyFault) (took : List (List ℕ)) (all : Inlet) (book : Book) (s : Now) → Follows s book → Why s.side hears item fault took all book → Why book.trail.side hears item fault took all book
@@ -176,10 +179,12 @@ failed_there : (half : ℕ) (hears : Bool) (item : Option PeerIn) (event : Event
 failed_there half hears item event fault a old new c d =
     let at : Now = d.stops.last in
     let r : Reached half a new at = reached_by half hears event a old new at d.events c d.stops.part d.whole.book in
+    let weighs : weight (closed new.book).trail ≤ MOST_WEIGHT =
+    omega (arith, same_weight 0 new.book, ap (λ (b : Book). weight b.trail) d.whole.book, whole_weighs old event c.begins d.events at d.stops.part d.whole.fit) in
     record {
       part = in_part half a new at r;
       why = as_side hears item fault r.works.took a.inside.inlet (closed new.book) at r.follows (elim d.stops.due [
-        | inl halt ↦ halts_why hears item at (closed new.book) r.follows r.works.took a.inside.inlet r.works.inside.inlet fault (still_may hears (step event old.now) at d.events c.may d.stops.part) halt
+        | inl halt ↦ halts_why hears item at (closed new.book) r.follows r.token weighs r.works.took a.inside.inlet r.works.inside.inlet fault (still_may hears (step event old.now) at d.events c.may d.stops.part) halt
         | inr memory ↦ subst (λ (x : ProxyFault). Why at.side hears item x r.works.took a.inside.inlet (closed new.book)) (sym memory) tt
       ]);
     }
@@ -201,7 +206,7 @@ heavy_there half hears item event a old new c d t part recorded rest same =
     let more : MOST_WEIGHT < weight (closed new.book).trail + mark_cost (mark_of d.heavy_event at) = omega (arith, same_weight 0 new.book, heavy) in
     record {
       part = in_part half a new at r;
-      why = as_side hears item LIMIT_TRAIL r.works.took a.inside.inlet (closed new.book) at r.follows (heavy_why hears item at (closed new.book) r.follows r.works.took a.inside.inlet r.works.inside.inlet d.heavy_event split.1.0 less more);
+      why = as_side hears item LIMIT_TRAIL r.works.took a.inside.inlet (closed new.book) at r.follows (heavy_why hears item at (closed new.book) r.follows r.token less r.works.took a.inside.inlet r.works.inside.inlet d.heavy_event split.1.0 more);
     }
 
 -- at the event from outside
@@ -306,8 +311,8 @@ still_waits s rests wants = go (waits_in s.live.sending) refl
     go true e = absurd (let never : true ≡ false = sym free ∙ treated_so s (all_rest s rests).treats e in cc)
 
 -- an item of a pipe changes no inlet, and others are barred by nothing and weigh nothing
-fed_alone : (half : ℕ) (item : PeerIn) (old : TrailState) → Begins old (Fed item) → Alone (Some item) (Fed item) (fed item (side_seen half old)) old
-fed_alone half item old b = by_item item b.admits
+fed_alone : (half : ℕ) (item : PeerIn) (old : TrailState) → Begins old (Fed item) → old.now.token ≡ TOKEN → Alone (Some item) (Fed item) (fed item (side_seen half old)) old
+fed_alone half item old b token = by_item item b.admits
   where
     quiet : hear old.now ≡ Rest
     quiet = (all_rest old.now b.runs.rests).hears
@@ -336,28 +341,30 @@ fed_alone half item old b = by_item item b.admits
       light = refl;
       bars = λ fault bar.
           as_side false (Some (inputs.Pipe pipe)) fault [] old.now.live.sending.inlet (closed old.book) old.now b.follows.follows
-          (item_bars old.now (closed old.book) b.follows.follows quiet (still_waits old.now b.runs.rests) admits.0 (inputs.Pipe pipe) fault bar);
+          (item_bars old.now (closed old.book) b.follows.follows token b.weighs quiet (still_waits old.now b.runs.rests) admits.0 (inputs.Pipe pipe) fault bar);
       heavy = λ heavy.
           as_side false (Some (inputs.Pipe pipe)) LIMIT_TRAIL [] old.now.live.sending.inlet (closed old.book) old.now b.follows.follows
-          (item_heavy old.now (closed old.book) b.follows.follows quiet (still_waits old.now b.runs.rests) (inputs.Pipe pipe) admits.0 admits.1 b.weighs heavy);
+          (item_heavy old.now (closed old.book) b.follows.follows token b.weighs quiet (still_waits old.now b.runs.rests) (inputs.Pipe pipe) admits.0 admits.1 heavy);
     }
 
 pub fed_fails : FedFails
-fed_fails half item fault old new r admits calls =
+fed_fails half item fault old new r token admits calls =
     let b : Begins old (Fed item) = begins old (Fed item) r.goes_on r.keeps admits in
     let c : Called half false (Fed item) (fed item (side_seen half old)) old = record {
       begins = b;
+      token = token;
       base = may_hear _ _ (fed_base half item old.now old.book);
       may = inr (quiet_still (Fed item) old.now b.runs.rests (fed_here item old.now));
     } in
-    fails_so half (Some item) (Fed item) fault (fed item (side_seen half old)) old new c (fed_alone half item old b) (fails_of (Fed item) fault old new r calls)
+    fails_so half (Some item) (Fed item) fault (fed item (side_seen half old)) old new c (fed_alone half item old b token) (fails_of (Fed item) fault old new r calls)
 
 pub asks_fails : AsksFails
 unfolding step
-asks_fails half reason fault old new r admits calls =
+asks_fails half reason fault old new r token admits calls =
     let b : Begins old (Asks reason) = begins old (Asks reason) r.goes_on r.keeps admits in
     let c : Called half false (Asks reason) (asked (side_seen half old)) old = record {
       begins = b;
+      token = token;
       base = subst (λ (a : SideState). Works true a (seen half (step (Asks reason) old.now) (grown (Asks reason) old.now (closed old.book))))
           (asks_base half reason old.now old.book old.now.kept.closing refl) (works_same true (seen half (step (Asks reason) old.now) (grown (Asks reason) old.now (closed old.book))));
       may = inr (quiet_still (Asks reason) old.now b.runs.rests refl);
@@ -375,24 +382,24 @@ handed_same half done s book fault b w = record {
 
 pub handed_fails : HandedFails
 unfolding step
-handed_fails half done fault old new r admits calls =
+handed_fails half done fault old new r token admits calls =
     let b : Begins old (Handed done) = begins old (Handed done) r.goes_on r.keeps admits in
     let a : SideState = seen half (step (Handed done) old.now) (grown (Handed done) old.now (closed old.book)) in
-    let c : Called half false (Handed done) a old = record { begins = b; base = works_same true a; may = inr (quiet_still (Handed done) old.now b.runs.rests refl) } in
+    let c : Called half false (Handed done) a old = record { begins = b; token = token; base = works_same true a; may = inr (quiet_still (Handed done) old.now b.runs.rests refl) } in
     handed_same half done old.now old.book fault (side_seen half new)
     (fails_so half None (Handed done) fault a old new c
     (record { same = refl; light = refl; bars = λ fault bar. absurd cc; heavy = λ heavy. absurd (omega (arith, b.weighs, heavy)) }) (fails_of (Handed done) fault old new r calls))
 
 -- a piece that is not read is refused
-came_so : (half : ℕ) (piece : List ℕ) (here : Here) (fault : ProxyFault) (old new : TrailState) → Begins old (Came piece) → old.now.live.here ≡ Some here → FailsSo (Came piece) fault old new
+came_so : (half : ℕ) (piece : List ℕ) (here : Here) (fault : ProxyFault) (old new : TrailState) → Begins old (Came piece) → old.now.token ≡ TOKEN → old.now.live.here ≡ Some here → FailsSo (Came piece) fault old new
     → FailsInPart (length piece) fault (side_seen half old) (seen half (step (Came piece) old.now) (grown (Came piece) old.now (closed old.book))) (side_seen half new)
-came_so half piece here fault old new b up why = by_why why
+came_so half piece here fault old new b token up why = by_why why
   where
     a : SideState
     a = seen half (step (Came piece) old.now) (grown (Came piece) old.now (closed old.book))
 
     c : Called half true (Came piece) a old
-    c = record { begins = b; base = works_same true a; may = inl refl }
+    c = record { begins = b; token = token; base = works_same true a; may = inl refl }
 
     refused : new.book ≡ closed old.book → (fault ≡ LIMIT_TRAIL) × (MOST_WEIGHT < weight old.book.trail + length piece) ⊎ (fault ≡ Memory) → FailsInPart (length piece) fault (side_seen half old) a (side_seen half new)
     refused e d = inl (
@@ -420,10 +427,10 @@ came_so half piece here fault old new b up why = by_why why
     ]
 
 pub came_fails : CameFails
-came_fails half piece here fault old new r admits up calls =
+came_fails half piece here fault old new r token admits up calls =
     let b : Begins old (Came piece) = begins old (Came piece) r.goes_on r.keeps admits in
     subst (λ (a : SideState). FailsInPart (length piece) fault (side_seen half old) a (side_seen half new)) (came_base half piece here old.now old.book old.now.live.here refl up)
-    (came_so half piece here fault old new b up (fails_of (Came piece) fault old new r calls))
+    (came_so half piece here fault old new b token up (fails_of (Came piece) fault old new r calls))
 
 -- ---- a connection
 

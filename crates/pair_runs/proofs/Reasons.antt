@@ -19,6 +19,7 @@ use Rattle.half_model.specs.declared.causes.HalfFault.{HalfFault}
 use Rattle.half_model.specs.declared.causes.HalfFault.TheVariants as halves
 use Rattle.half_model.specs.declared.causes.Limit.{Limit}
 use Rattle.half_model.specs.declared.causes.Limit.TheVariants as limits
+use Rattle.half_model.specs.declared.causes.PeerCause.{PeerCause}
 use Rattle.half_model.specs.declared.causes.PeerCause.TheVariants.{PipeUnknown}
 use Rattle.half_model.specs.declared.items.PeerIn.{PeerIn}
 use Rattle.half_model.specs.declared.items.PeerIn.TheVariants as inputs
@@ -37,7 +38,7 @@ use Rattle.half_model.proofs.PipeLaws.{pipe_turn_is_lawful}
 use Rattle.half_model.proofs.Shown.{order_is_tracked}
 use Rattle.half_model.proofs.Sound.{sound_now}
 use Rattle.half_model.proofs.Turns.{turn_is_lawful}
-use Rattle.pair_model.specs.Wire.{Accepts}
+use Rattle.pair_model.specs.Wire.{Wire}
 use Rattle.pipe_relay.specs.Pipes.{is_unknown, after_item, frame_of_item}
 use Rattle.side_model.specs.declared.fault.ProxyFault.{ProxyFault}
 use Rattle.side_model.specs.declared.fault.ProxyFault.TheVariants as faults
@@ -59,17 +60,44 @@ use Rattle.side_model.proofs.Links.{link_down}
 use Rattle.side_model.proofs.Sounds.{wants_free, Room, room_of}
 use Rattle.pair_runs.specs.Causes.{HasCause, MessageHas, IsUnknown, TellsAbove}
 use Rattle.pair_runs.specs.Leaving.{Leaves}
+use Rattle.pair_runs.specs.Sides.{TOKEN}
 use Rattle.pair_runs.specs.Whys.{Told, Stands, TellsTooMuch, MadeOf, IsAlone, IsMade, AddsTooMuch, PassesLimit, Why}
 use Rattle.pair_runs.proofs.Composing.{leaves_same}
 use Rattle.pair_runs.proofs.Refusals.{OnFault, refused_so_by}
 
 -- ---- the story
 
-abbrev pub told_by : (s : Now) (book : Book) → Follows s book → hear s ≡ Rest → Told s.side book
-told_by s book f q =
-    let rests : Rests s.token (side_of book.trail (places_in f.story) None) (accepted_in f.story) =
-    link_down s.token (side_of book.trail (places_in f.story) None) (accepted_in f.story) s.live.here (is_quiet s q) f.link in
-    record { story = f.story; log = f.log; tells = f.tells; heard = rests.accepts }
+rests_there : (s : Now) (book : Book) (f : Follows s book) → hear s ≡ Rest → Rests s.token (side_of book.trail (places_in f.story) None) (accepted_in f.story)
+rests_there s book f q = link_down s.token (side_of book.trail (places_in f.story) None) (accepted_in f.story) s.live.here (is_quiet s q) f.link
+
+wire_there : (s : Now) (book : Book) (f : Follows s book) → hear s ≡ Rest → s.token ≡ TOKEN → Wire TOKEN (side_of book.trail (places_in f.story) None)
+wire_there s book f q e = subst (λ (token : List ℕ). Wire token (side_of book.trail (places_in f.story) None)) e (rests_there s book f q).wire
+
+abbrev peer_told : (s : Now) (book : Book) → Follows s book → hear s ≡ Rest → s.token ≡ TOKEN → weight book.trail ≤ MOST_WEIGHT → (index : ℕ) (cause : PeerCause) → index ≡ length book.trail.taken → Told s.side (faults.Peer index cause) book
+peer_told s book f q e w index cause is = record {
+  story = f.story;
+  tells = f.tells;
+  log = f.log;
+  stop = None;
+  wire = wire_there s book f q e;
+  heard = (rests_there s book f q).accepts;
+  stops = refl;
+  index = is;
+  weighs = w;
+}
+
+abbrev limit_told : (s : Now) (book : Book) → Follows s book → hear s ≡ Rest → s.token ≡ TOKEN → weight book.trail ≤ MOST_WEIGHT → (which : Limit) → Told s.side (faults.Limit which) book
+limit_told s book f q e w which = record {
+  story = f.story;
+  tells = f.tells;
+  log = f.log;
+  stop = None;
+  wire = wire_there s book f q e;
+  heard = (rests_there s book f q).accepts;
+  stops = refl;
+  index = tt;
+  weighs = w;
+}
 
 same_side : (s : Now) (book : Book) → Follows s book → s.live.tables.handles.side ≡ s.side
 same_side s book f = ap (λ (state : LogState). state.tables.handles.side) (sym f.after) ∙ (sound_now s.side f.story f.log).tables.0
@@ -82,7 +110,7 @@ tracked_there s book f = order_is_tracked.tracked s.side f.story f.log ∙ ap (�
 
 -- ---- a message that is refused
 
-module _ (hears : Bool) (item : Option PeerIn) (s : Now) (book : Book) (f : Follows s book) (took : List (List ℕ)) (all : Inlet) (left : Leaves took all s.live.sending.inlet) where
+module _ (hears : Bool) (item : Option PeerIn) (s : Now) (book : Book) (f : Follows s book) (token : s.token ≡ TOKEN) (w : weight book.trail ≤ MOST_WEIGHT) (took : List (List ℕ)) (all : Inlet) (left : Leaves took all s.live.sending.inlet) where
   by_message : hear s ≡ Rest → (fault : HalfFault) → turn s.live.tables s.live.sending ≡ turns.Refuses fault → Why s.side hears item (fault_of fault) took all book
   by_message q (halves.Peer index cause) e =
       let there : OnFault s.live.tables s.live.sending s.live.taking (has_made_close s.kept.closing) (order_in s.side f.story) (tracked_there s book f) (halves.Peer index cause) =
@@ -91,7 +119,7 @@ module _ (hears : Bool) (item : Option PeerIn) (s : Now) (book : Book) (f : Foll
       subst (λ (state : LogState). HasCause s.side state (order_in s.side f.story) s.live.sending.inlet cause) (sym f.after)
       (subst (λ (side : Side). HasCause side (log_state s) (order_in s.side f.story) s.live.sending.inlet cause) (same_side s book f) there.1) in
       record {
-        told = told_by s book f q;
+        told = peer_told s book f q token w index cause (there.0 ∙ f.taken);
         index_is = there.0 ∙ f.taken;
         tracked = order_is_tracked.tracked s.side f.story f.log;
         at = inl (record { behind = record { waits = s.live.sending.inlet; left = left }; has = has });
@@ -105,8 +133,8 @@ module _ (hears : Bool) (item : Option PeerIn) (s : Now) (book : Book) (f : Foll
           (refused_so_by s.live.tables s.live.sending s.live.taking (has_made_close s.kept.closing) (order_in s.side f.story) (tracked_there s book f) (halves.Limit which) e))
 
       by_which : (which : Limit) → TellsAbove which s.side (now s.side f.story) s.live.sending.inlet → PassesLimit which s.side item took all book
-      by_which limits.File h = record { told = told_by s book f q; behind = record { waits = s.live.sending.inlet; left = left }; above = h }
-      by_which limits.Files h = record { told = told_by s book f q; behind = record { waits = s.live.sending.inlet; left = left }; above = h }
+      by_which limits.File h = record { told = limit_told s book f q token w limits.File; behind = record { waits = s.live.sending.inlet; left = left }; above = h }
+      by_which limits.Files h = record { told = limit_told s book f q token w limits.Files; behind = record { waits = s.live.sending.inlet; left = left }; above = h }
       by_which limits.Trail h = absurd h.above
       by_which limits.Connections h = absurd h.above
       by_which limits.Input h = absurd h.above
@@ -160,7 +188,7 @@ module _ (hears : Bool) (item : Option PeerIn) (s : Now) (book : Book) (f : Foll
       let t : IsTaken s.live.tables s.live.sending s.live.taking it = turn_is_lawful s.live.tables s.live.sending s.live.taking it e in
       let before : now s.side f.story ≡ log_of s.live.tables s.live.sending s.live.taking false = f.after ∙ ap (log_of s.live.tables s.live.sending s.live.taking) (not_made_yet it e s.kept.closing refl) in
       record {
-        told = told_by s book f q;
+        told = limit_told s book f q token w limits.Trail;
         behind = record { waits = s.live.sending.inlet; left = left };
         mark = taken_mark it;
         lawful = subst (λ (state : LogState). Lawful state (taken_mark it)) (sym before) t.lawful;
@@ -173,7 +201,7 @@ module _ (hears : Bool) (item : Option PeerIn) (s : Now) (book : Book) (f : Foll
       let o : Owing s made = owing s book f made e in
       let owes : (now s.side f.story).owes ≡ Some o.owed = ap (λ (state : LogState). state.owes) f.after ∙ o.owes in
       record {
-        told = told_by s book f q;
+        told = limit_told s book f q token w limits.Trail;
         behind = record { waits = s.live.sending.inlet; left = left };
         mark = marks.Grouped made.frames made.copies;
         lawful = subst (λ (owes : Option Owed). MayMake (now s.side f.story) owes made.frames made.copies) (sym owes) o.is_group;
@@ -188,7 +216,7 @@ module _ (hears : Bool) (item : Option PeerIn) (s : Now) (book : Book) (f : Foll
       let owes : (now s.side f.story).owes ≡ None = ap (λ (state : LogState). state.owes) f.after ∙ none in
       let still : (now s.side f.story).closed ≡ false = ap (λ (state : LogState). state.closed) f.after ∙ ap has_made_close asked in
       record {
-        told = told_by s book f q;
+        told = limit_told s book f q token w limits.Trail;
         behind = record { waits = s.live.sending.inlet; left = left };
         mark = marks.Grouped (frames.Close reason ∷ []) [];
         lawful =
@@ -199,8 +227,8 @@ module _ (hears : Bool) (item : Option PeerIn) (s : Now) (book : Book) (f : Foll
       }
 
   -- an event that is due
-  pub heavy_why : (event : Event) → next s ≡ Do event → weight book.trail ≤ MOST_WEIGHT → Heavy (mark_of event s) → AddsTooMuch s.side item took all book
-  heavy_why event d w heavy = by_phase (due_in s event d)
+  pub heavy_why : (event : Event) → next s ≡ Do event → Heavy (mark_of event s) → AddsTooMuch s.side item took all book
+  heavy_why event d heavy = by_phase (due_in s event d)
     where
       by_phase : DueIn s event → AddsTooMuch s.side item took all book
       by_phase (InHear h) =
@@ -238,19 +266,19 @@ alone_of state item (frames.Ack count) h = h
 alone_of state item (frames.Restart token connection received) h = h
 alone_of state item (frames.Close reason) h = tt
 
-module _ (s : Now) (book : Book) (f : Follows s book) (q : hear s ≡ Rest) (calm : (wants_peer s ≡ true) → waits_in s.live.sending ≡ false) where
+module _ (s : Now) (book : Book) (f : Follows s book) (token : s.token ≡ TOKEN) (w : weight book.trail ≤ MOST_WEIGHT) (q : hear s ≡ Rest) (calm : (wants_peer s ≡ true) → waits_in s.live.sending ≡ false) where
   abbrev all : Inlet
   all = s.live.sending.inlet
 
   -- the frame of an item of a pipe is too heavy
-  makes_heavy : (pipe : PipeItem) → wants_peer s ≡ true → IsItem (inputs.Pipe pipe) → weight book.trail ≤ MOST_WEIGHT
+  makes_heavy : (pipe : PipeItem) → wants_peer s ≡ true → IsItem (inputs.Pipe pipe)
       → (it : PipeTurn) → pipe_turn s.live.tables s.live.taking pipe ≡ it → MOST_WEIGHT < weight book.trail + mark_cost (mark_pipe pipe it)
       → AddsTooMuch s.side (Some (inputs.Pipe pipe)) [] all book
-  makes_heavy pipe wants piece w pipes.Barred e heavy = absurd (omega (arith, w, heavy))
-  makes_heavy (pieces.Bytes rid bytes) wants piece w (pipes.Drops tables) e heavy = absurd (omega (arith, w, heavy))
-  makes_heavy (pieces.End rid) wants piece w (pipes.Drops tables) e heavy = absurd (omega (arith, w, heavy))
-  makes_heavy (pieces.Shut number) wants piece w (pipes.Drops tables) e heavy = absurd (omega (arith, w, heavy))
-  makes_heavy pipe wants piece w (pipes.Makes frame tables) e heavy =
+  makes_heavy pipe wants piece pipes.Barred e heavy = absurd (omega (arith, w, heavy))
+  makes_heavy (pieces.Bytes rid bytes) wants piece (pipes.Drops tables) e heavy = absurd (omega (arith, w, heavy))
+  makes_heavy (pieces.End rid) wants piece (pipes.Drops tables) e heavy = absurd (omega (arith, w, heavy))
+  makes_heavy (pieces.Shut number) wants piece (pipes.Drops tables) e heavy = absurd (omega (arith, w, heavy))
+  makes_heavy pipe wants piece (pipes.Makes frame tables) e heavy =
       let free : (is_open s.kept.closing ≡ true) × (is_free s.live.sending.owes s.kept.ring ≡ true) = wants_free s wants in
       let room : Room s.live.sending.owes s.kept.ring = room_of s.live.sending.owes s.kept.ring free.1 in
       let before : now s.side f.story ≡ log_of s.live.tables s.live.sending s.live.taking false = f.after ∙ ap (log_of s.live.tables s.live.sending s.live.taking) (not_made s.kept.closing free.0) in
@@ -263,7 +291,7 @@ module _ (s : Now) (book : Book) (f : Follows s book) (q : hear s ≡ Rest) (cal
         makes = ap (λ (state : LogState). pipe_turn state.tables state.taking pipe) f.after ∙ e;
       } in
       record {
-        told = told_by s book f q;
+        told = limit_told s book f q token w limits.Trail;
         behind = record { waits = s.live.sending.inlet; left = leaves_same s.live.sending.inlet };
         mark = marks.Grouped (frame ∷ []) [];
         lawful = subst (λ (state : LogState). Lawful state (marks.Grouped (frame ∷ []) [])) (sym before) lawful.0;
@@ -273,11 +301,11 @@ module _ (s : Now) (book : Book) (f : Follows s book) (q : hear s ≡ Rest) (cal
         heavy = heavy;
       }
 
-  pub item_heavy : (item : PeerIn) → wants_peer s ≡ true → IsItem item → weight book.trail ≤ MOST_WEIGHT → MOST_WEIGHT < weight book.trail + mark_cost (mark_of (Fed item) s) → AddsTooMuch s.side (Some item) [] all book
-  item_heavy (inputs.Bytes bytes) wants piece w heavy = absurd (omega (arith, w, heavy))
-  item_heavy (inputs.Handle handle) wants piece w heavy = absurd (omega (arith, w, heavy))
-  item_heavy (inputs.Note note) wants piece w heavy = absurd (omega (arith, w, heavy))
-  item_heavy (inputs.Pipe pipe) wants piece w heavy = makes_heavy pipe wants piece w (pipe_turn s.live.tables s.live.taking pipe) refl heavy
+  pub item_heavy : (item : PeerIn) → wants_peer s ≡ true → IsItem item → MOST_WEIGHT < weight book.trail + mark_cost (mark_of (Fed item) s) → AddsTooMuch s.side (Some item) [] all book
+  item_heavy (inputs.Bytes bytes) wants piece heavy = absurd (omega (arith, w, heavy))
+  item_heavy (inputs.Handle handle) wants piece heavy = absurd (omega (arith, w, heavy))
+  item_heavy (inputs.Note note) wants piece heavy = absurd (omega (arith, w, heavy))
+  item_heavy (inputs.Pipe pipe) wants piece heavy = makes_heavy pipe wants piece (pipe_turn s.live.tables s.live.taking pipe) refl heavy
 
   -- an item is for a pipe that the peer doesn't hold
   unknown_named : (pipe : PipeItem) (named : Option PipeItem) → named_turn s.live.tables named ≡ pipes.Barred → MatchOption named (Unit {0}) (λ it. is_unknown s.live.tables.pipes it ≡ true)
@@ -299,7 +327,7 @@ module _ (s : Now) (book : Book) (f : Follows s book) (q : hear s ≡ Rest) (cal
       let is : faults.Peer s.live.sending.taken PipeUnknown ≡ fault = cc in
       let unknown : IsUnknown (log_state s) pipe = unknown_named pipe (item_by_rid s.live.tables.handles s.live.taking.held pipe) e in
       subst (λ (x : ProxyFault). Why s.side false (Some (inputs.Pipe pipe)) x [] all book) is (record {
-        told = told_by s book f q;
+        told = peer_told s book f q token w s.live.sending.taken PipeUnknown f.taken;
         index_is = f.taken;
         tracked = order_is_tracked.tracked s.side f.story f.log;
         at = inr (record { pipe = pipe; brought = refl; cause_is = refl; none = refl; still = calm wants; unknown = subst (λ (state : LogState). IsUnknown state pipe) (sym f.after) unknown });

@@ -21,28 +21,24 @@ use Rattle.half_model.specs.Inlet.{Inlet}
 use Rattle.half_model.specs.Log as marks
 use Rattle.half_model.specs.Log.{Mark, LogState, Lawful}
 use Rattle.half_model.specs.PipeTurn.{Makes, pipe_turn}
-use Rattle.half_model.specs.Story.{order_in, accepted_in}
-use Rattle.half_model.specs.StoryLaws.{now, IsStory}
+use Rattle.half_model.specs.Story.{order_in}
+use Rattle.half_model.specs.StoryLaws.{now}
 use Rattle.half_model.specs.Tables.{Tables}
 use Rattle.half_model.specs.Turn.{stands_in}
 use Rattle.pair_model.specs.Lines.{Line}
 use Rattle.pair_model.specs.Rows.{spellings}
-use Rattle.pair_model.specs.Wire.{Accepts}
 use Rattle.side_model.specs.declared.fault.ProxyFault.{ProxyFault}
 use Rattle.side_model.specs.declared.fault.ProxyFault.TheVariants as faults
 use Rattle.side_model.specs.Books.{Book, TrailRecord, weight, mark_cost, MOST_WEIGHT, ITEM_WEIGHT}
 use Rattle.side_model.specs.Calls.{MOST_CONNECTIONS}
-use Rattle.side_model.specs.Places.{places_in, side_of}
-use Rattle.side_model.specs.Records.{TellsStory}
+use Rattle.side_model.specs.Records.{Law}
 use Rattle.pair_runs.specs.Causes.{MessageHas, IsUnknown, TellsAbove}
 use Rattle.pair_runs.specs.Leaving.{Leaves}
+use Rattle.pair_runs.specs.Sides.{TOKEN}
 
--- A story that the records of a side tell: the frames that it heard are those of the bytes read.
-pub record Told (side : Side) (book : Book) : Type 0 where
-  pub story : List Mark
-  pub log : IsStory side story
-  pub tells : TellsStory side story book
-  pub heard : Accepts (side_of book.trail (places_in story) None) (accepted_in story)
+-- The records of a side that has met a fault are lawful: they tell a story.
+abbrev pub Told : Side → ProxyFault → Book → Type 0
+Told side fault book = Law side TOKEN book (Some fault)
 
 -- what waits behind these messages, of all that waited
 pub record Waits (took : List (List ℕ)) (all : Inlet) : Type 0 where
@@ -72,7 +68,7 @@ pub record AtItem (side : Side) (story : List Mark) (cause : PeerCause) (took : 
 -- messages were taken as the index says, and the next one, or the item, has the cause.
 pub record Stands (side : Side) (item : Option PeerIn) (index : ℕ) (cause : PeerCause)
     (took : List (List ℕ)) (all : Inlet) (book : Book) : Type 0 where
-  pub told : Told side book
+  pub told : Told side (faults.Peer index cause) book
   pub index_is : index ≡ length book.trail.taken
   pub tracked : track first_objects (order_in side told.story)
       ≡ Ok (now side told.story).tables.objects.tracked
@@ -83,7 +79,7 @@ pub record Stands (side : Side) (item : Option PeerIn) (index : ℕ) (cause : Pe
 -- the message behind those that were taken tells a size above its limit
 pub record TellsTooMuch (which : Limit) (side : Side) (took : List (List ℕ)) (all : Inlet)
     (book : Book) : Type 0 where
-  pub told : Told side book
+  pub told : Told side (faults.Limit which) book
   pub behind : Waits took all
   pub above : TellsAbove which side (now side told.story) behind.waits
 
@@ -114,7 +110,7 @@ ComesNext state item waits mark = ⊥
 -- what would be recorded next is too heavy
 pub record AddsTooMuch (side : Side) (item : Option PeerIn) (took : List (List ℕ)) (all : Inlet)
     (book : Book) : Type 0 where
-  pub told : Told side book
+  pub told : Told side (faults.Limit limits.Trail) book
   pub behind : Waits took all
   pub mark : Mark
   pub lawful : Lawful (now side told.story) mark

@@ -117,24 +117,28 @@ FailsInPart size fault old done new =
 
 abbrev pub FedFails : Type 0
 FedFails = (half : ℕ) (item : PeerIn) (fault : ProxyFault) (old new : TrailState) → RunsOn old
-    → Admits (Fed item) old.now → TrailCalls (Fed item) (Err fault) old new
+    → old.now.token ≡ TOKEN → Admits (Fed item) old.now
+    → TrailCalls (Fed item) (Err fault) old new
     → WorksInPart false (Some item) fault (fed item (side_seen half old)) (side_seen half new)
 
 abbrev pub CameFails : Type 0
 CameFails = (half : ℕ) (piece : List ℕ) (here : Here) (fault : ProxyFault) (old new : TrailState)
-    → RunsOn old → Admits (Came piece) old.now → old.now.live.here ≡ Some here
+    → RunsOn old → old.now.token ≡ TOKEN → Admits (Came piece) old.now
+    → old.now.live.here ≡ Some here
     → TrailCalls (Came piece) (Err fault) old new
     → FailsInPart (length piece) fault (side_seen half old) (read piece (side_seen half old))
     (side_seen half new)
 
 abbrev pub AsksFails : Type 0
 AsksFails = (half reason : ℕ) (fault : ProxyFault) (old new : TrailState) → RunsOn old
-    → Admits (Asks reason) old.now → TrailCalls (Asks reason) (Err fault) old new
+    → old.now.token ≡ TOKEN → Admits (Asks reason) old.now
+    → TrailCalls (Asks reason) (Err fault) old new
     → WorksInPart false None fault (asked (side_seen half old)) (side_seen half new)
 
 abbrev pub HandedFails : Type 0
 HandedFails = (half : ℕ) (done : Done) (fault : ProxyFault) (old new : TrailState) → RunsOn old
-    → Admits (Handed done) old.now → TrailCalls (Handed done) (Err fault) old new
+    → old.now.token ≡ TOKEN → Admits (Handed done) old.now
+    → TrailCalls (Handed done) (Err fault) old new
     → WorksInPart false None fault (side_seen half old) (side_seen half new)
 
 -- a connection has its line, or not; and why it is refused
