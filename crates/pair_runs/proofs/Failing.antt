@@ -47,7 +47,7 @@ use Rattle.side_model.proofs.TrailParts.{ran, NotRun, Begins, begins, follows_ro
 use Rattle.pair_runs.specs.Leaving.{Leaves}
 use Rattle.pair_runs.specs.Moves.{LineInPart}
 use Rattle.pair_runs.specs.Sides.{SideState, TOKEN, fed, asked, seen, side_seen}
-use Rattle.pair_runs.specs.Whys.{Waits, AtMessage, AtItem, Stands, AddsTooMuch, PassesLimit, Why, RefusesLine, NextBytes, RefusesPiece}
+use Rattle.pair_runs.specs.Whys.{Waits, AtMessage, AtItem, Stands, PassesLimit, Why, RefusesLine, NextBytes, RefusesPiece}
 use Rattle.pair_runs.specs.WorkLaws.{RunsOn, FailsInPart, FedFails, CameFails, AsksFails, HandedFails, UpFails, UpLimits, LendsFails, KeptByFault}
 use Rattle.pair_runs.specs.Working.{Works, InPart, WorksInPart}
 use Rattle.pair_runs.proofs.Calling.{ok_done, fault_front, fed_base, fed_here, came_base, asks_base, quiet_still}
@@ -104,7 +104,8 @@ then_stands ws ts a b side book index cause l h = record { told = h.told; index_
 then_passes : (ws ts : List (List ℕ)) (a b : Inlet) (side : Side) (book : Book) (which : Limit) → Leaves ws a b → PassesLimit which side None ts b book → PassesLimit which side None (ws ++ ts) a book
 then_passes ws ts a b side book limits.File l h = record { told = h.told; behind = then_waits ws ts a b l h.behind; above = h.above }
 then_passes ws ts a b side book limits.Files l h = record { told = h.told; behind = then_waits ws ts a b l h.behind; above = h.above }
-then_passes ws ts a b side book limits.Trail l h = record { told = h.told; behind = then_waits ws ts a b l h.behind; mark = h.mark; lawful = h.lawful; comes = h.comes; heavy = h.heavy }
+then_passes ws ts a b side book limits.Trail l (inl h) = inl (record { told = h.told; behind = then_waits ws ts a b l h.behind; mark = h.mark; lawful = h.lawful; comes = h.comes; heavy = h.heavy })
+then_passes ws ts a b side book limits.Trail l (inr h) = absurd (let never : None ≡ Some (inputs.Pipe h.pipe) = h.brought in cc)
 then_passes ws ts a b side book limits.Connections l h = h
 then_passes ws ts a b side book limits.Input l h = h
 then_passes ws ts a b side book limits.Lines l h = h
@@ -206,7 +207,7 @@ heavy_there half hears item event a old new c d t part recorded rest same =
     let more : MOST_WEIGHT < weight (closed new.book).trail + mark_cost (mark_of d.heavy_event at) = omega (arith, same_weight 0 new.book, heavy) in
     record {
       part = in_part half a new at r;
-      why = as_side hears item LIMIT_TRAIL r.works.took a.inside.inlet (closed new.book) at r.follows (heavy_why hears item at (closed new.book) r.follows r.token less r.works.took a.inside.inlet r.works.inside.inlet d.heavy_event split.1.0 more);
+      why = as_side hears item LIMIT_TRAIL r.works.took a.inside.inlet (closed new.book) at r.follows (inl (heavy_why hears item at (closed new.book) r.follows r.token less r.works.took a.inside.inlet r.works.inside.inlet d.heavy_event split.1.0 more));
     }
 
 -- at the event from outside
@@ -263,7 +264,7 @@ record Alone (item : Option PeerIn) (event : Event) (a : SideState) (old : Trail
   same : a.book ≡ closed old.book
   light : line_cost event old.now.live.here ≡ 0
   bars : (fault : ProxyFault) → barred event old.now ≡ Some fault → Why old.book.trail.side false item fault [] a.inside.inlet (closed old.book)
-  heavy : MOST_WEIGHT < weight (closed old.book).trail + mark_cost (mark_of event old.now) → AddsTooMuch old.book.trail.side item [] a.inside.inlet (closed old.book)
+  heavy : MOST_WEIGHT < weight (closed old.book).trail + mark_cost (mark_of event old.now) → PassesLimit limits.Trail old.book.trail.side item [] a.inside.inlet (closed old.book)
 
 at_once : (half : ℕ) (item : Option PeerIn) (fault : ProxyFault) (a : SideState) (old new : TrailState) → a.book ≡ closed old.book → new.book ≡ closed old.book → Why old.book.trail.side false item fault [] a.inside.inlet (closed old.book) → WorksInPart false item fault a (side_seen half new)
 at_once half item fault a old new same e why =
@@ -344,7 +345,7 @@ fed_alone half item old b token = by_item item b.admits
           (item_bars old.now (closed old.book) b.follows.follows token b.weighs quiet (still_waits old.now b.runs.rests) admits.0 (inputs.Pipe pipe) fault bar);
       heavy = λ heavy.
           as_side false (Some (inputs.Pipe pipe)) LIMIT_TRAIL [] old.now.live.sending.inlet (closed old.book) old.now b.follows.follows
-          (item_heavy old.now (closed old.book) b.follows.follows token b.weighs quiet (still_waits old.now b.runs.rests) (inputs.Pipe pipe) admits.0 admits.1 heavy);
+          (inr (item_heavy old.now (closed old.book) b.follows.follows token b.weighs quiet (still_waits old.now b.runs.rests) (inputs.Pipe pipe) heavy));
     }
 
 pub fed_fails : FedFails

@@ -61,7 +61,7 @@ use Rattle.side_model.proofs.Sounds.{wants_free, Room, room_of}
 use Rattle.pair_runs.specs.Causes.{HasCause, MessageHas, IsUnknown, TellsAbove}
 use Rattle.pair_runs.specs.Leaving.{Leaves}
 use Rattle.pair_runs.specs.Sides.{TOKEN}
-use Rattle.pair_runs.specs.Whys.{Told, Stands, TellsTooMuch, MadeOf, IsAlone, IsMade, AddsTooMuch, PassesLimit, Why}
+use Rattle.pair_runs.specs.Whys.{Told, Stands, TellsTooMuch, IsMade, AddsTooMuch, MakesTooMuch, PassesLimit, Why}
 use Rattle.pair_runs.proofs.Composing.{leaves_same}
 use Rattle.pair_runs.proofs.Refusals.{OnFault, refused_so_by}
 
@@ -183,7 +183,7 @@ module _ (hears : Bool) (item : Option PeerIn) (s : Now) (book : Book) (f : Foll
   abbrev Heavy : Option Mark → Type 0
   Heavy mark = MOST_WEIGHT < weight book.trail + mark_cost mark
 
-  takes_heavy : hear s ≡ Rest → (it : Treated) → turn s.live.tables s.live.sending ≡ turns.Takes it → Heavy (Some (taken_mark it)) → AddsTooMuch s.side item took all book
+  takes_heavy : hear s ≡ Rest → (it : Treated) → turn s.live.tables s.live.sending ≡ turns.Takes it → Heavy (Some (taken_mark it)) → AddsTooMuch s.side took all book
   takes_heavy q it e heavy =
       let t : IsTaken s.live.tables s.live.sending s.live.taking it = turn_is_lawful s.live.tables s.live.sending s.live.taking it e in
       let before : now s.side f.story ≡ log_of s.live.tables s.live.sending s.live.taking false = f.after ∙ ap (log_of s.live.tables s.live.sending s.live.taking) (not_made_yet it e s.kept.closing refl) in
@@ -196,7 +196,7 @@ module _ (hears : Bool) (item : Option PeerIn) (s : Now) (book : Book) (f : Foll
         heavy = heavy;
       }
 
-  group_heavy : hear s ≡ Rest → (made : MadeGroup) → group_due s.live.sending.owes s.kept.jobs ≡ Some made → Heavy (Some (marks.Grouped made.frames made.copies)) → AddsTooMuch s.side item took all book
+  group_heavy : hear s ≡ Rest → (made : MadeGroup) → group_due s.live.sending.owes s.kept.jobs ≡ Some made → Heavy (Some (marks.Grouped made.frames made.copies)) → AddsTooMuch s.side took all book
   group_heavy q made e heavy =
       let o : Owing s made = owing s book f made e in
       let owes : (now s.side f.story).owes ≡ Some o.owed = ap (λ (state : LogState). state.owes) f.after ∙ o.owes in
@@ -205,11 +205,11 @@ module _ (hears : Bool) (item : Option PeerIn) (s : Now) (book : Book) (f : Foll
         behind = record { waits = s.live.sending.inlet; left = left };
         mark = marks.Grouped made.frames made.copies;
         lawful = subst (λ (owes : Option Owed). MayMake (now s.side f.story) owes made.frames made.copies) (sym owes) o.is_group;
-        comes = subst (λ (owes : Option Owed). IsMade (now s.side f.story) owes item made.frames) (sym owes) tt;
+        comes = subst (λ (owes : Option Owed). IsMade owes made.frames) (sym owes) tt;
         heavy = heavy;
       }
 
-  close_heavy : hear s ≡ Rest → (reason : ℕ) → s.kept.closing ≡ Asked reason → s.live.sending.owes ≡ None → Heavy (Some (marks.Grouped (frames.Close reason ∷ []) [])) → AddsTooMuch s.side item took all book
+  close_heavy : hear s ≡ Rest → (reason : ℕ) → s.kept.closing ≡ Asked reason → s.live.sending.owes ≡ None → Heavy (Some (marks.Grouped (frames.Close reason ∷ []) [])) → AddsTooMuch s.side took all book
   close_heavy q reason asked none heavy =
       let word : IsWord reason = subst (λ (c : Closing). ClosingFollows c (is_none s.live.sending.owes) (waits_in s.live.sending)) asked f.closes in
       let is_frame : IsFrame (frames.Close reason) = record { fields = word; fits = omega (arith, length-word_bytes reason) } in
@@ -222,15 +222,15 @@ module _ (hears : Bool) (item : Option PeerIn) (s : Now) (book : Book) (f : Foll
         lawful =
             subst (λ (owes : Option Owed). MayMake (now s.side f.story) owes (frames.Close reason ∷ []) []) (sym owes)
             (refl, record { goes_on = still; is_frame = is_frame; may = refl });
-        comes = subst (λ (owes : Option Owed). IsMade (now s.side f.story) owes item (frames.Close reason ∷ [])) (sym owes) tt;
+        comes = subst (λ (owes : Option Owed). IsMade owes (frames.Close reason ∷ [])) (sym owes) tt;
         heavy = heavy;
       }
 
   -- an event that is due
-  pub heavy_why : (event : Event) → next s ≡ Do event → Heavy (mark_of event s) → AddsTooMuch s.side item took all book
+  pub heavy_why : (event : Event) → next s ≡ Do event → Heavy (mark_of event s) → AddsTooMuch s.side took all book
   heavy_why event d heavy = by_phase (due_in s event d)
     where
-      by_phase : DueIn s event → AddsTooMuch s.side item took all book
+      by_phase : DueIn s event → AddsTooMuch s.side took all book
       by_phase (InHear h) =
           let nothing : mark_cost (mark_of event s) ≡ 0 = ap (λ (v : Event). mark_cost (mark_of v s)) (frame_due s event h).is in
           absurd (omega (arith, nothing, w, heavy))
@@ -252,60 +252,34 @@ module _ (hears : Bool) (item : Option PeerIn) (s : Now) (book : Book) (f : Foll
 
 -- ---- an item of the peer
 
-alone_of : (state : LogState) (item : Option PeerIn) (frame : Frame) → MadeOf state item frame → IsAlone state item (frame ∷ [])
-alone_of state item (frames.Protocol bytes) h = h
-alone_of state item (frames.Inject number) h = h
-alone_of state item (frames.OpenFile rid size) h = h
-alone_of state item (frames.ExtendFile rid size) h = h
-alone_of state item (frames.Fill rid start end bytes) h = h
-alone_of state item (frames.OpenPipe rid) h = h
-alone_of state item (frames.PipeTransfer rid bytes) h = h
-alone_of state item (frames.PipeShutR rid) h = h
-alone_of state item (frames.PipeShutW rid) h = h
-alone_of state item (frames.Ack count) h = h
-alone_of state item (frames.Restart token connection received) h = h
-alone_of state item (frames.Close reason) h = tt
-
 module _ (s : Now) (book : Book) (f : Follows s book) (token : s.token ≡ TOKEN) (w : weight book.trail ≤ MOST_WEIGHT) (q : hear s ≡ Rest) (calm : (wants_peer s ≡ true) → waits_in s.live.sending ≡ false) where
   abbrev all : Inlet
   all = s.live.sending.inlet
 
   -- the frame of an item of a pipe is too heavy
-  makes_heavy : (pipe : PipeItem) → wants_peer s ≡ true → IsItem (inputs.Pipe pipe)
-      → (it : PipeTurn) → pipe_turn s.live.tables s.live.taking pipe ≡ it → MOST_WEIGHT < weight book.trail + mark_cost (mark_pipe pipe it)
-      → AddsTooMuch s.side (Some (inputs.Pipe pipe)) [] all book
-  makes_heavy pipe wants piece pipes.Barred e heavy = absurd (omega (arith, w, heavy))
-  makes_heavy (pieces.Bytes rid bytes) wants piece (pipes.Drops tables) e heavy = absurd (omega (arith, w, heavy))
-  makes_heavy (pieces.End rid) wants piece (pipes.Drops tables) e heavy = absurd (omega (arith, w, heavy))
-  makes_heavy (pieces.Shut number) wants piece (pipes.Drops tables) e heavy = absurd (omega (arith, w, heavy))
-  makes_heavy pipe wants piece (pipes.Makes frame tables) e heavy =
-      let free : (is_open s.kept.closing ≡ true) × (is_free s.live.sending.owes s.kept.ring ≡ true) = wants_free s wants in
-      let room : Room s.live.sending.owes s.kept.ring = room_of s.live.sending.owes s.kept.ring free.1 in
-      let before : now s.side f.story ≡ log_of s.live.tables s.live.sending s.live.taking false = f.after ∙ ap (log_of s.live.tables s.live.sending s.live.taking) (not_made s.kept.closing free.0) in
-      let lawful = pipe_turn_is_lawful.makes s.side f.story s.live.tables s.live.sending s.live.taking pipe frame tables f.log before room.none piece e in
-      let owes : (now s.side f.story).owes ≡ None = ap (λ (state : LogState). state.owes) f.after ∙ room.none in
-      let made : MadeOf (now s.side f.story) (Some (inputs.Pipe pipe)) frame = record {
-        pipe = pipe;
-        brought = refl;
-        tables = tables;
-        makes = ap (λ (state : LogState). pipe_turn state.tables state.taking pipe) f.after ∙ e;
-      } in
+  makes_heavy : (pipe : PipeItem) (it : PipeTurn) → pipe_turn s.live.tables s.live.taking pipe ≡ it → MOST_WEIGHT < weight book.trail + mark_cost (mark_pipe pipe it)
+      → MakesTooMuch s.side (Some (inputs.Pipe pipe)) [] book
+  makes_heavy pipe pipes.Barred e heavy = absurd (omega (arith, w, heavy))
+  makes_heavy (pieces.Bytes rid bytes) (pipes.Drops tables) e heavy = absurd (omega (arith, w, heavy))
+  makes_heavy (pieces.End rid) (pipes.Drops tables) e heavy = absurd (omega (arith, w, heavy))
+  makes_heavy (pieces.Shut number) (pipes.Drops tables) e heavy = absurd (omega (arith, w, heavy))
+  makes_heavy pipe (pipes.Makes frame tables) e heavy =
       record {
         told = limit_told s book f q token w limits.Trail;
-        behind = record { waits = s.live.sending.inlet; left = leaves_same s.live.sending.inlet };
-        mark = marks.Grouped (frame ∷ []) [];
-        lawful = subst (λ (state : LogState). Lawful state (marks.Grouped (frame ∷ []) [])) (sym before) lawful.0;
-        comes =
-            subst (λ (owes : Option Owed). IsMade (now s.side f.story) owes (Some (inputs.Pipe pipe)) (frame ∷ [])) (sym owes)
-            (alone_of (now s.side f.story) (Some (inputs.Pipe pipe)) frame made);
-        heavy = heavy;
+        pipe = pipe;
+        brought = refl;
+        none = refl;
+        frame = frame;
+        tables = tables;
+        makes = ap (λ (state : LogState). pipe_turn state.tables state.taking pipe) f.after ∙ e;
+        heavy = omega (arith, heavy);
       }
 
-  pub item_heavy : (item : PeerIn) → wants_peer s ≡ true → IsItem item → MOST_WEIGHT < weight book.trail + mark_cost (mark_of (Fed item) s) → AddsTooMuch s.side (Some item) [] all book
-  item_heavy (inputs.Bytes bytes) wants piece heavy = absurd (omega (arith, w, heavy))
-  item_heavy (inputs.Handle handle) wants piece heavy = absurd (omega (arith, w, heavy))
-  item_heavy (inputs.Note note) wants piece heavy = absurd (omega (arith, w, heavy))
-  item_heavy (inputs.Pipe pipe) wants piece heavy = makes_heavy pipe wants piece (pipe_turn s.live.tables s.live.taking pipe) refl heavy
+  pub item_heavy : (item : PeerIn) → MOST_WEIGHT < weight book.trail + mark_cost (mark_of (Fed item) s) → MakesTooMuch s.side (Some item) [] book
+  item_heavy (inputs.Bytes bytes) heavy = absurd (omega (arith, w, heavy))
+  item_heavy (inputs.Handle handle) heavy = absurd (omega (arith, w, heavy))
+  item_heavy (inputs.Note note) heavy = absurd (omega (arith, w, heavy))
+  item_heavy (inputs.Pipe pipe) heavy = makes_heavy pipe (pipe_turn s.live.tables s.live.taking pipe) refl heavy
 
   -- an item is for a pipe that the peer doesn't hold
   unknown_named : (pipe : PipeItem) (named : Option PipeItem) → named_turn s.live.tables named ≡ pipes.Barred → MatchOption named (Unit {0}) (λ it. is_unknown s.live.tables.pipes it ≡ true)

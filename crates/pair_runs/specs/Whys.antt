@@ -83,44 +83,50 @@ pub record TellsTooMuch (which : Limit) (side : Side) (took : List (List ℕ)) (
   pub behind : Waits took all
   pub above : TellsAbove which side (now side told.story) behind.waits
 
--- a frame that is made alone is CLOSE, or is that of the item
-pub record MadeOf (state : LogState) (item : Option PeerIn) (frame : Frame) : Type 0 where
-  pub pipe : PipeItem
-  pub brought : item ≡ Some (inputs.Pipe pipe)
-  pub tables : Tables
-  pub makes : pipe_turn state.tables state.taking pipe ≡ Makes frame tables
+-- a frame that is made where no message is owed is CLOSE
+abbrev pub IsClose : List Frame → Type 0
+IsClose (frames.Close reason ∷ []) = Unit {0}
+IsClose made = ⊥
 
-abbrev pub IsAlone : LogState → Option PeerIn → List Frame → Type 0
-IsAlone state item (frames.Close reason ∷ []) = Unit {0}
-IsAlone state item (frame ∷ []) = MadeOf state item frame
-IsAlone state item frames = ⊥
-
-abbrev pub IsMade : LogState → Option Owed → Option PeerIn → List Frame → Type 0
-IsMade state None item frames = IsAlone state item frames
-IsMade state (Some owed) item frames = Unit {0}
+abbrev pub IsMade : Option Owed → List Frame → Type 0
+IsMade None made = IsClose made
+IsMade (Some owed) made = Unit {0}
 
 -- the mark may come next: a message is taken from the front of what waits, or frames are made,
--- which are those of the message that is owed, CLOSE, or the one of the item
-abbrev pub ComesNext : LogState → Option PeerIn → Inlet → Mark → Type 0
-ComesNext state item waits (marks.Taken message handle segments) =
-    first waits.bytes ≡ Ok (Some message)
-ComesNext state item waits (marks.Grouped frames copies) = IsMade state state.owes item frames
-ComesNext state item waits mark = ⊥
+-- which are those of the message that is owed, or CLOSE
+abbrev pub ComesNext : LogState → Inlet → Mark → Type 0
+ComesNext state waits (marks.Taken message handle segments) = first waits.bytes ≡ Ok (Some message)
+ComesNext state waits (marks.Grouped made copies) = IsMade state.owes made
+ComesNext state waits mark = ⊥
 
 -- what would be recorded next is too heavy
-pub record AddsTooMuch (side : Side) (item : Option PeerIn) (took : List (List ℕ)) (all : Inlet)
-    (book : Book) : Type 0 where
+pub record AddsTooMuch (side : Side) (took : List (List ℕ)) (all : Inlet) (book : Book)
+    : Type 0 where
   pub told : Told side (faults.Limit limits.Trail) book
   pub behind : Waits took all
   pub mark : Mark
   pub lawful : Lawful (now side told.story) mark
-  pub comes : ComesNext (now side told.story) item behind.waits mark
+  pub comes : ComesNext (now side told.story) behind.waits mark
   pub heavy : MOST_WEIGHT < weight book.trail + mark_cost (Some mark)
+
+-- or the frame of the item that the call brought is
+pub record MakesTooMuch (side : Side) (item : Option PeerIn) (took : List (List ℕ)) (book : Book)
+    : Type 0 where
+  pub told : Told side (faults.Limit limits.Trail) book
+  pub pipe : PipeItem
+  pub brought : item ≡ Some (inputs.Pipe pipe)
+  pub none : took ≡ []
+  pub frame : Frame
+  pub tables : Tables
+  pub makes : pipe_turn (now side told.story).tables (now side told.story).taking pipe
+      ≡ Makes frame tables
+  pub heavy : MOST_WEIGHT < weight book.trail + length (spelling frame)
 
 abbrev pub PassesLimit : Limit → Side → Option PeerIn → List (List ℕ) → Inlet → Book → Type 0
 PassesLimit limits.File side item took all book = TellsTooMuch limits.File side took all book
 PassesLimit limits.Files side item took all book = TellsTooMuch limits.Files side took all book
-PassesLimit limits.Trail side item took all book = AddsTooMuch side item took all book
+PassesLimit limits.Trail side item took all book =
+    AddsTooMuch side took all book ⊎ MakesTooMuch side item took book
 PassesLimit which side item took all book = ⊥
 
 -- ---- any fault
