@@ -25,3 +25,6 @@ pub mod Passings
 pub mod Ordering
 pub mod Allowing
 pub mod Stopping
+pub mod Feeding
+pub mod Causing
+pub mod Blaming

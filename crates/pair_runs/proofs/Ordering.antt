@@ -154,7 +154,7 @@ none_waits side it g free = go (waits it) refl
     go true e = absurd (let never : true ≡ false = sym free ∙ g.treated e in cc)
 
 -- nothing whole is in bytes at whose front nothing whole stands
-cut_none : (bytes : List ℕ) (front : Result (Option (List ℕ)) WireFault) → first bytes ≡ front → stands_in front ≡ false → cut bytes ≡ []
+pub cut_none : (bytes : List ℕ) (front : Result (Option (List ℕ)) WireFault) → first bytes ≡ front → stands_in front ≡ false → cut bytes ≡ []
 cut_none bytes (Ok None) e w = cut-waits bytes e
 cut_none bytes (Ok (Some message)) e w = absurd cc
 cut_none bytes (Err fault) e w = absurd cc

@@ -19,3 +19,5 @@ pub mod WrongRuns
 pub mod Agreeing
 pub mod Headline
 pub mod Orders
+pub mod Putting
+pub mod Faults

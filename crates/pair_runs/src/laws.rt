@@ -1,6 +1,7 @@
 //! The laws of runs: functions that do nothing, and whose contract is the law.
 
 ghost use Rattle.pair_runs.specs.Agreeing.{MovesTie, RunsAgree};
+ghost use Rattle.pair_runs.specs.Faults.{FaultsAreCaused};
 ghost use Rattle.pair_runs.specs.Headline.{RunsTakeFirst, RunsReceive};
 ghost use Rattle.pair_runs.specs.Measure.{RoundFalls};
 ghost use Rattle.pair_runs.specs.MoreLaws.{WorksMore, ReadsMore, WritesMore, BeginsFirst};
@@ -107,6 +108,13 @@ pub fn runs_receive()
 /// ones: a line that moves all that waits parts what was put before it from what was put behind it.
 pub fn orders_are_allowed()
     ensures { RunsAreAllowed }
+{}
+
+/// Where a run ends with a fault its cause stands: at the message that the side's peer put behind
+/// those that the side's records say were taken, in the order of passing that they tell, or at an
+/// item that was put there; or the limit is passed by what would be next.
+pub fn faults_are_caused()
+    ensures { FaultsAreCaused }
 {}
 
 /// No run skips a break or the number of a connection, makes a connection while one is up, writes
