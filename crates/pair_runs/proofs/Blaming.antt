@@ -1,5 +1,5 @@
 -- That the fault of a run is caused, line by line.
-use Rattle.std.proofs.Common.{◌≡◌, ℕ, zero, suc, List, [], ◌∷◌, ◌++◌, Bool, true, false, Option, Some, None, refl, sym, ap, subst, ◌∙◌, append_assoc, inl, inr}
+use Rattle.std.proofs.Common.{◌≡◌, ℕ, zero, suc, List, [], ◌∷◌, ◌++◌, Bool, true, false, Option, Some, None, refl, sym, subst, append_assoc, inl, inr}
 use Rattle.std.proofs.lemmas.List.{append-nil}
 use Rattle.wp_outside.specs.declared.kinds.Side.{Side}
 use Rattle.wp_outside.specs.declared.kinds.Side.TheVariants.{Near, Far}
@@ -12,8 +12,7 @@ use Rattle.pair_runs.specs.Faults.{Caused, FaultsAreCaused}
 use Rattle.pair_runs.specs.Kept.{Kept, KeptAt}
 use Rattle.pair_runs.specs.Moves.{Move, MovesAll}
 use Rattle.pair_runs.specs.Putting.{items_of_move, items_of_moves, items_by, items_put, TakenOf}
-use Rattle.pair_runs.specs.Runs.{Played, Rounds, Settles, settles, moves_of, Does, DoesBy, End, Drained, Stopped, Fails, end_by, PlaysLine, Plays, round, MOST, size_after}
-use Rattle.pair_runs.specs.RunLaws.{fault_by}
+use Rattle.pair_runs.specs.Runs.{Played, Rounds, settles, moves_of, Does, DoesBy, End, Drained, Stopped, Fails, end_by, PlaysLine, Plays, round, MOST, size_after}
 use Rattle.pair_runs.specs.States.{State, Fault, first_state, side_at, connections}
 use Rattle.pair_runs.specs.Whys.{Told}
 use Rattle.pair_runs.proofs.Causing.{BothFed, Fed, its, by_both, plain, move_fed, fed_more}

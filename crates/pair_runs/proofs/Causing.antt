@@ -1,5 +1,5 @@
 -- What the fault of a side tells, move by move: the cause stands at what its peer put.
-use Rattle.std.proofs.Common.{◌≡◌, ℕ, zero, suc, ◌+◌, ◌-◌, ◌<◌, ◌≤◌, max, List, [], ◌∷◌, ◌++◌, take, drop, length, Bool, true, false, is_none, ◌&&◌, ◌||◌, Option, Some, None, refl, sym, ap, subst, ◌∙◌, append_assoc, arith, inl, inr, ◌⊎◌}
+use Rattle.std.proofs.Common.{◌≡◌, ℕ, zero, suc, ◌+◌, ◌-◌, ◌<◌, ◌≤◌, max, List, [], ◌∷◌, ◌++◌, take, drop, length, Bool, true, false, is_none, ◌&&◌, ◌||◌, Option, Some, None, refl, sym, ap, subst, ◌∙◌, arith, inl, inr, ◌⊎◌}
 use Rattle.std.proofs.lemmas.List.{append-nil}
 use Rattle.std.proofs.lemmas.List.Concat.{flat_map-append}
 use Rattle.std.specs.List.{AllByRecursion}
@@ -22,20 +22,19 @@ use Rattle.side_model.specs.declared.fault.ProxyFault.{ProxyFault}
 use Rattle.side_model.specs.declared.fault.ProxyFault.TheVariants as faults
 use Rattle.side_model.specs.Books.{Book, MOST_WEIGHT, ITEM_WEIGHT, weight}
 use Rattle.side_model.specs.Calls.{MOST_CONNECTIONS}
-use Rattle.pair_runs.specs.Causes.{MessageHas, IsUnknown}
-use Rattle.pair_runs.specs.Faults.{Waiting, ItemNext, MessageCaused, ItemCaused, PeerCaused, SizeCaused, MarkCaused, MadeCaused, PieceCaused, TrailCaused, LimitCaused, Caused}
-use Rattle.pair_runs.specs.Kept.{Kept, KeptAt}
+use Rattle.pair_runs.specs.Causes.{IsUnknown}
+use Rattle.pair_runs.specs.Faults.{Waiting, ItemNext, MessageCaused, ItemCaused, MadeCaused, TrailCaused, LimitCaused, Caused}
 use Rattle.pair_runs.specs.Leaving.{Leaves}
 use Rattle.pair_runs.specs.Linking.{new_line, with_line, Reads, ReadsInPart, read}
 use Rattle.pair_runs.specs.Loading.{LoadsIn, LoadsAllIn, Loads}
-use Rattle.pair_runs.specs.Moves.{Move, Put, Take, Load, LoadAll, Connect, ConnectIfHeld, Break, Push, Pull, Spoil, Close, at_side, Taken, Loaded, LoadedThen, LoadedAll, holds, LineInPart, ConnectFails, ConnectBy, ConnectedBy, Connected, WritesBy, PushedOn, PulledBy, PulledOff, ClosedBy, Closed, Changes, MovesAll, spoiled}
-use Rattle.pair_runs.specs.Putting.{if_its, items_of_move, items_of_moves, spread_item, spread, inlet_of, TakenOf}
+use Rattle.pair_runs.specs.Moves.{Move, Put, Take, Load, LoadAll, Connect, ConnectIfHeld, Break, Push, Pull, Spoil, Close, at_side, Loaded, LoadedThen, holds, LineInPart, ConnectFails, ConnectBy, ConnectedBy, Connected, WritesBy, PushedOn, PulledBy, PulledOff, ClosedBy, Changes, spoiled}
+use Rattle.pair_runs.specs.Putting.{items_of_move, spread_item, spread, inlet_of, TakenOf}
 use Rattle.pair_runs.specs.Runs.{bytes_in}
 use Rattle.pair_runs.specs.Sides.{Inside, SideState, fed, asked, all_loaded, rows_of, last_number}
 use Rattle.pair_runs.specs.States.{State, Lanes, Fault, side_at, with_side, wire_at, with_wire, lane_at, on_lane, writer, reader, connections}
 use Rattle.pair_runs.specs.Taking.{Cut, cut_item, Taker, TakesIn}
-use Rattle.pair_runs.specs.Whys.{Told, Waits, AtMessage, AtItem, Stands, MakesTooMuch, PassesLimit, Why, RefusesFront, RefusesPiece, RefusesLine, RefusesMore}
-use Rattle.pair_runs.specs.Working.{Works, InPart, WorksInPart}
+use Rattle.pair_runs.specs.Whys.{Told, Waits, AtMessage, AtItem, MakesTooMuch, PassesLimit, Why, RefusesPiece, RefusesLine}
+use Rattle.pair_runs.specs.Working.{InPart, WorksInPart}
 use Rattle.pair_runs.proofs.Feeding.{FedAt, fed_in, taken_on, works_fed, put_more, bytes_with}
 use Rattle.pair_runs.proofs.Ordering.{cut_none}
 use Rattle.pair_runs.proofs.Receiving.{all_plain}

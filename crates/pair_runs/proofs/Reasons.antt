@@ -1,5 +1,5 @@
 -- Why a fault is due where the records follow a proxy, or where an event is too heavy: the cause stands at what waits there, or the limit is passed.
-use Rattle.std.proofs.Common.{◌≡◌, ℕ, ◌+◌, ◌<◌, ◌≤◌, List, [], ◌∷◌, Bool, true, false, Option, Some, None, Result, Ok, Err, length, refl, sym, ap, subst, ◌∙◌, arith, inl, inr, ◌⊎◌, if◌then◌else◌}
+use Rattle.std.proofs.Common.{◌≡◌, ℕ, ◌+◌, ◌<◌, ◌≤◌, List, [], ◌∷◌, Bool, true, false, Option, Some, None, Result, Ok, length, refl, sym, ap, subst, ◌∙◌, arith, inl, inr, ◌⊎◌, if◌then◌else◌}
 use Rattle.std.specs.Prelude.{is_none}
 use Rattle.std.specs.Option.{MatchOption}
 use Rattle.wp_outside.specs.declared.kinds.Side.{Side}
@@ -34,7 +34,6 @@ use Rattle.half_model.specs.StoryLaws.{now}
 use Rattle.half_model.specs.Turn as turns
 use Rattle.half_model.specs.Turn.{Turn, turn, Treated, MadeGroup, group_due, waits_in}
 use Rattle.half_model.specs.TurnLaws.{log_of, IsTaken, taken_mark}
-use Rattle.half_model.proofs.PipeLaws.{pipe_turn_is_lawful}
 use Rattle.half_model.proofs.Shown.{order_is_tracked}
 use Rattle.half_model.proofs.Sound.{sound_now}
 use Rattle.half_model.proofs.Turns.{turn_is_lawful}
@@ -44,25 +43,21 @@ use Rattle.side_model.specs.declared.fault.ProxyFault.{ProxyFault}
 use Rattle.side_model.specs.declared.fault.ProxyFault.TheVariants as faults
 use Rattle.side_model.specs.Books.{Book, weight, mark_cost, MOST_WEIGHT}
 use Rattle.side_model.specs.Calls.{barred, barred_pipe}
-use Rattle.side_model.specs.Due.{hear, group, treat, end, choose, work, next, fault_of, is_free}
-use Rattle.side_model.specs.Events.{Event, Fed, Took, Grouped, Ended, Chose, Heard, Do, Halt, Rest, or_next}
+use Rattle.side_model.specs.Due.{hear, group, treat, end, choose, work, next, fault_of}
+use Rattle.side_model.specs.Events.{Event, Fed, Do, Halt, Rest, or_next}
 use Rattle.side_model.specs.Follows.{Follows, Rests, ClosingFollows, log_state}
-use Rattle.side_model.specs.Marks.{mark_of, mark_taken, mark_grouped, mark_ended, mark_pipe, mark_dropped}
+use Rattle.side_model.specs.Marks.{mark_of, mark_taken, mark_grouped, mark_ended, mark_pipe}
 use Rattle.side_model.specs.Places.{places_in, side_of}
-use Rattle.side_model.specs.Shows.{has_made_close, is_open, wants_peer}
-use Rattle.side_model.specs.Sound.{IsItem}
+use Rattle.side_model.specs.Shows.{has_made_close, wants_peer}
 use Rattle.side_model.specs.State.{Now, Closing, Open, Asked, Made}
 use Rattle.side_model.proofs.Calms.{waits_idle}
-use Rattle.side_model.proofs.Dues.{DueIn, InHear, InGroup, InTreat, InEnd, InChoose, due_in, or_next_halt, FrameRefused, frame_refused, TurnRefused, turn_refused, no_halt_in_group, no_halt_in_end, no_halt_in_choose, is_quiet, FrameDue, frame_due, GroupDue, group_is_due, TurnDue, turn_due, EndDue, end_is_due, ChoiceDue, choice_due}
-use Rattle.side_model.proofs.FollowsFed.{not_made}
+use Rattle.side_model.proofs.Dues.{DueIn, InHear, InGroup, InTreat, InEnd, InChoose, due_in, or_next_halt, frame_refused, TurnRefused, turn_refused, no_halt_in_group, no_halt_in_end, no_halt_in_choose, is_quiet, frame_due, GroupDue, group_is_due, TurnDue, turn_due, EndDue, end_is_due, choice_due}
 use Rattle.side_model.proofs.FollowsWork.{Owing, owing}
 use Rattle.side_model.proofs.Links.{link_down}
-use Rattle.side_model.proofs.Sounds.{wants_free, Room, room_of}
 use Rattle.pair_runs.specs.Causes.{HasCause, MessageHas, IsUnknown, TellsAbove}
 use Rattle.pair_runs.specs.Leaving.{Leaves}
 use Rattle.pair_runs.specs.Sides.{TOKEN}
-use Rattle.pair_runs.specs.Whys.{Told, Stands, TellsTooMuch, IsMade, AddsTooMuch, MakesTooMuch, PassesLimit, Why}
-use Rattle.pair_runs.proofs.Composing.{leaves_same}
+use Rattle.pair_runs.specs.Whys.{Told, IsMade, AddsTooMuch, MakesTooMuch, PassesLimit, Why}
 use Rattle.pair_runs.proofs.Refusals.{OnFault, refused_so_by}
 
 -- ---- the story

@@ -1,11 +1,10 @@
 -- Why a sending half refuses the message at the front of what waits, read off from its turn; and that it is refused where it has a cause.
-use Rattle.std.proofs.Common.{◌≡◌, ℕ, ◌<◌, ◌≤◌, max, List, [], ◌∷◌, ◌++◌, map, Bool, true, false, ◌&&◌, nat_lt, Option, Some, None, Result, Ok, Err, refl, sym, ap, subst, ◌∙◌, arith, inl, inr, ◌⊎◌, if◌then◌else◌}
+use Rattle.std.proofs.Common.{◌≡◌, ℕ, ◌≤◌, max, List, [], ◌∷◌, ◌++◌, Bool, true, false, ◌&&◌, nat_lt, Option, Some, None, Result, Ok, Err, refl, sym, ap, subst, ◌∙◌, inl, inr, if◌then◌else◌}
 use Rattle.std.proofs.lemmas.Bool.{ltb-true, ltb-false}
 use Rattle.wp_outside.specs.declared.kinds.HandleKind.{HandleKind}
 use Rattle.wp_outside.specs.declared.kinds.Side.{Side}
 use Rattle.wl_wire.specs.declared.faults.ObjectFault.{ObjectFault}
 use Rattle.wl_wire.specs.declared.faults.WireFault.{WireFault}
-use Rattle.wl_wire.specs.declared.faults.ObjectFault.TheVariants.{Wire}
 use Rattle.wl_wire.specs.Wire.{first}
 use Rattle.wl_tables.specs.declared.way.Way.{Way}
 use Rattle.wl_tables.specs.Ways.{own_way}
@@ -15,24 +14,22 @@ use Rattle.handle_table.specs.declared.handles.Handle.{Handle}
 use Rattle.handle_table.specs.Table.{is_kind}
 use Rattle.half_model.specs.declared.causes.HalfFault.{HalfFault}
 use Rattle.half_model.specs.declared.causes.HalfFault.TheVariants as halves
-use Rattle.half_model.specs.declared.causes.Limit.{Limit}
 use Rattle.half_model.specs.declared.causes.Limit.TheVariants as limits
-use Rattle.half_model.specs.declared.causes.PeerCause.{PeerCause}
 use Rattle.half_model.specs.declared.causes.PeerCause.TheVariants as causes
 use Rattle.half_model.specs.Content.{Taking}
 use Rattle.half_model.specs.Deeds.{deed_of}
 use Rattle.half_model.specs.Filling.{covers}
-use Rattle.half_model.specs.Group.{Owed, note_refusal}
-use Rattle.half_model.specs.Inlet.{Inlet, handle_for, note_for, inlet_after, eyes_in}
+use Rattle.half_model.specs.Group.{Owed}
+use Rattle.half_model.specs.Inlet.{handle_for, note_for, inlet_after, eyes_in}
 use Rattle.half_model.specs.Log.{LogState}
-use Rattle.half_model.specs.Planning.{Plan, Refusal, ByCause, ByLimit, NoRid, kind_carried, unless, handle_refusal, passing_then, found_then, limit_refusal, sum_with, plan_with, tell_in, seen_in, plan_passing, plan_passed}
+use Rattle.half_model.specs.Planning.{Plan, Refusal, ByCause, ByLimit, NoRid, unless, handle_refusal, passing_then, found_then, limit_refusal, sum_with, plan_with, tell_in, seen_in, plan_passing, plan_passed}
 use Rattle.half_model.specs.Shm.{Passing, Tell, passing_of, told_at}
 use Rattle.half_model.specs.Sides.{is_own}
 use Rattle.half_model.specs.Tables.{Tables}
 use Rattle.half_model.specs.Turn.{Sending, Treated, Turn, Idle, Refuses, Takes, fault_of, unless_refused, treated_by, turn_planned, turn_step, turn_front, turn_unless, turn}
 use Rattle.half_model.specs.TurnLaws.{log_of}
 use Rattle.mirror_pools.specs.Sizes.{MOST_FILE, MOST_FILES}
-use Rattle.pair_runs.specs.Causes.{Passes, kind_in, handle_in, words_noted, passing_in, AboveSize, TellsAbove, HasCause}
+use Rattle.pair_runs.specs.Causes.{Passes, kind_in, handle_in, words_noted, passing_in, TellsAbove, HasCause}
 
 -- ---- the last message of an order
 
