@@ -28,3 +28,4 @@ pub mod Stopping
 pub mod Feeding
 pub mod Causing
 pub mod Blaming
+pub mod WrongFaulting

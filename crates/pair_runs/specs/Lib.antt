@@ -21,3 +21,4 @@ pub mod Headline
 pub mod Orders
 pub mod Putting
 pub mod Faults
+pub mod WrongFaults

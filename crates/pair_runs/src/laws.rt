@@ -15,6 +15,8 @@ ghost use Rattle.pair_runs.specs.WorkLaws.{LendsIs, SendsIs, WantsIs, NothingLen
 ghost use Rattle.pair_runs.specs.WorkLaws.{FedFails, CameFails, AsksFails};
 ghost use Rattle.pair_runs.specs.WorkLaws.{HandedFails, UpFails, UpLimits, LendsFails, KeptByFault};
 ghost use Rattle.pair_runs.specs.WorkLaws.{GaveWorks, LentIs, HandedIs, HandedWorks, NoneOut};
+ghost use Rattle.pair_runs.specs.WrongFaults.{BlamesNothing, BlamesOther, BlamesPipe, BlamesLink};
+ghost use Rattle.pair_runs.specs.WrongFaults.{LimitsFew, LimitsNone, RefusesUnheard};
 ghost use Rattle.pair_runs.specs.WrongRuns.{SkipsBreak, ConnectsAgain, SkipsNumber, PushesLess};
 ghost use Rattle.pair_runs.specs.WrongRuns.{TakesFree, LoadsWhole, LeavesWaiting, HoldsOutput};
 ghost use Rattle.pair_runs.specs.WrongRuns.{OwesLoaded};
@@ -132,4 +134,18 @@ pub fn wrong_runs()
     ensures leaves_waiting { LeavesWaiting }
     ensures holds_output { HoldsOutput }
     ensures owes_loaded { OwesLoaded }
+{}
+
+/// No run ends with a fault that blames a message where nothing was put, or another message than
+/// the one behind those that were taken, or an item for a pipe where none was put; with a limit of
+/// connections where fewer were made, or one that no side has. And no move refuses a frame where
+/// none is heard, or a message where a connection is made.
+pub fn wrong_faults()
+    ensures blames_nothing { BlamesNothing }
+    ensures blames_other { BlamesOther }
+    ensures blames_pipe { BlamesPipe }
+    ensures limits_few { LimitsFew }
+    ensures limits_none { LimitsNone }
+    ensures refuses_unheard { RefusesUnheard }
+    ensures blames_link { BlamesLink }
 {}
