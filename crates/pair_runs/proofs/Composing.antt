@@ -1,14 +1,14 @@
 -- What calls change, one after another.
-use Rattle.std.proofs.Common.{◌≡◌, ◌≢◌, ℕ, Bool, true, false, List, [], ◌∷◌, ◌++◌, length, refl, sym, ap, ◌∙◌, append_assoc, arith}
-use Rattle.std.proofs.lemmas.List.{append-nil, length-append}
+use Rattle.std.proofs.Common.{◌≡◌, ◌≢◌, ℕ, Bool, true, false, List, [], ◌∷◌, ◌++◌, map, refl, sym, ap, ◌∙◌, append_assoc, arith}
+use Rattle.std.proofs.lemmas.List.{append-nil, map-append}
 use Rattle.std.specs.List.{AllByRecursion}
 use Rattle.wl_wire.specs.Wire.{joined, IsMessage}
-use Rattle.half_model.specs.Inlet.{Inlet}
+use Rattle.half_model.specs.Inlet.{Inlet, inlet_after}
 use Rattle.side_model.specs.Books.{TrailRecord}
-use Rattle.pair_runs.specs.Leaving.{Leaves}
+use Rattle.pair_runs.specs.Leaving.{Use, after_uses, Leaves}
 use Rattle.pair_runs.specs.Sides.{Inside, SideState}
 use Rattle.pair_runs.specs.Working.{Takes, Awaits, Grows, Silent, Works}
-use Rattle.pair_runs.proofs.Ends.{front_same, front_then, end_same, end_then}
+use Rattle.pair_runs.proofs.Ends.{front_same, front_then}
 
 -- ---- lists of messages
 
@@ -31,18 +31,24 @@ all_then P (x ∷ xs) ys h k = (h.0, all_then P xs ys h.1 k)
 -- ---- what waits inside
 
 pub leaves_same : (waits : Inlet) → Leaves [] waits waits
-leaves_same waits = record { bytes = refl; fed = refl; taken = omega arith; handles = end_same waits.handles; notes = end_same waits.notes }
+leaves_same waits = record { uses = []; took_is = refl; left_is = refl; bytes = refl }
+
+pub uses_then : (us vs : List Use) (inlet : Inlet) → after_uses (us ++ vs) inlet ≡ after_uses vs (after_uses us inlet)
+uses_then [] vs inlet = refl
+uses_then (it ∷ us) vs inlet = uses_then us vs (inlet_after it.kind it.deed it.message inlet)
 
 pub leaves_then : (xs ys : List (List ℕ)) {a b c : Inlet} → Leaves xs a b → Leaves ys b c → Leaves (xs ++ ys) a c
 leaves_then xs ys {a} {b} {c} f g = record {
+  uses = f.uses ++ g.uses;
+  took_is =
+      ap (λ messages. messages ++ ys) f.took_is
+      ∙ ap (λ messages. map (λ (it : Use). it.message) f.uses ++ messages) g.took_is
+      ∙ sym (map-append (λ (it : Use). it.message) f.uses g.uses);
+  left_is = g.left_is ∙ ap (after_uses g.uses) f.left_is ∙ sym (uses_then f.uses g.uses a);
   bytes =
       f.bytes ∙ ap (λ bytes. joined xs ++ bytes) g.bytes
       ∙ sym (append_assoc (joined xs) (joined ys) c.bytes)
       ∙ ap (λ bytes. bytes ++ c.bytes) (sym (joined_then xs ys));
-  fed = g.fed ∙ f.fed;
-  taken = omega (arith, f.taken, g.taken, ap length (joined_then xs ys), length-append (joined xs) (joined ys));
-  handles = end_then f.handles g.handles;
-  notes = end_then f.notes g.notes;
 }
 
 -- ---- nothing

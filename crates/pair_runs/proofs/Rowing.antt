@@ -93,11 +93,10 @@ took_works half s book it none taken left = record {
   inside = record {
     messages = (taken.lawful.whole, tt);
     inlet = record {
+      uses = record { message = it.message; kind = left.kind; deed = left.deed } ∷ [];
+      took_is = refl;
+      left_is = left.inlet;
       bytes = taken.front ∙ ap (λ (front : List ℕ). front ++ it.sending.inlet.bytes) (sym (append-nil it.message));
-      fed = left.fed;
-      taken = left.taken ∙ ap (λ (front : List ℕ). s.live.sending.inlet.taken + length front) (sym (append-nil it.message));
-      handles = left.handles;
-      notes = left.notes;
     };
     asked = refl;
     none = λ e. absurd cc;

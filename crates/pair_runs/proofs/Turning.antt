@@ -11,38 +11,15 @@ use Rattle.wl_tables.specs.Ways.{own_way}
 use Rattle.handle_table.specs.declared.handles.Handle.{Handle}
 use Rattle.pool_words.specs.Views.{EyeState}
 use Rattle.half_model.specs.declared.deeds.Deed.{Deed}
-use Rattle.half_model.specs.declared.deeds.Deed.TheVariants.{Commit, Keymap}
 use Rattle.half_model.specs.Deeds.{deed_of}
 use Rattle.half_model.specs.Filling.{Part, parts_of}
 use Rattle.half_model.specs.Group.{Owed, owed_by}
-use Rattle.half_model.specs.Inlet.{Inlet, without_ready, handles_left, notes_left, inlet_after, handle_for, note_for, eyes_in, end_of}
+use Rattle.half_model.specs.Inlet.{Inlet, inlet_after, handle_for, note_for, eyes_in}
 use Rattle.half_model.specs.Jobs.{Job, job_of, jobs_of, no_eye}
 use Rattle.half_model.specs.Planning.{Plan, Refusal, plan_passed, kind_carried}
 use Rattle.half_model.specs.Tables.{Tables}
 use Rattle.half_model.specs.Turn.{Sending, Turn, Idle, Refuses, Takes, Treated, unless_refused, treated_by, turn_planned, turn_step, turn_front, turn_unless, turn}
-use Rattle.pair_runs.specs.Leaving.{IsEnd}
 use Rattle.pair_runs.specs.Sides.{loaded_in}
-use Rattle.pair_runs.proofs.Ends.{end_same, end_one}
-
--- ---- handles and notes
-
--- the oldest one goes, or none
-without_end : {X : Type 0} (end : ℕ) (xs : List (ℕ × X)) → IsEnd (without_ready end xs) xs
-without_end end [] = end_same []
-without_end end (one ∷ others) = go (nat_lt one.0 end)
-  where
-    go : (b : Bool) → IsEnd (if b then others else one ∷ others) (one ∷ others)
-    go true = end_one one others
-    go false = end_same (one ∷ others)
-
-handles_end : (kind : Option HandleKind) (message : List ℕ) (inlet : Inlet) → IsEnd (handles_left kind message inlet) inlet.handles
-handles_end None message inlet = end_same inlet.handles
-handles_end (Some kind) message inlet = without_end (end_of message inlet) inlet.handles
-
-notes_end : (deed : Deed) (message : List ℕ) (inlet : Inlet) → IsEnd (notes_left deed message inlet) inlet.notes
-notes_end Commit message inlet = without_end (end_of message inlet) inlet.notes
-notes_end (Keymap size) message inlet = without_end (end_of message inlet) inlet.notes
-notes_end _ message inlet = end_same inlet.notes
 
 -- ---- copies
 
@@ -56,10 +33,9 @@ fresh half next eyes (part ∷ parts) =
 -- ---- the message that is taken
 
 pub record LeftBy (s : Sending) (t : Treated) : Type 0 where
-  pub fed : t.sending.inlet.fed ≡ s.inlet.fed
-  pub taken : t.sending.inlet.taken ≡ s.inlet.taken + length t.message
-  pub handles : IsEnd t.sending.inlet.handles s.inlet.handles
-  pub notes : IsEnd t.sending.inlet.notes s.inlet.notes
+  pub kind : Option HandleKind
+  pub deed : Deed
+  pub inlet : t.sending.inlet ≡ inlet_after kind deed t.message s.inlet
   pub fresh : (half : ℕ) → sum_by (loaded_in half) t.jobs ≡ 0
 
 abbrev pub Left : Sending → Turn → Type 0
@@ -74,10 +50,9 @@ left_refused s index (Some refusal) t h = tt
 left_treated : (s : Sending) (message : List ℕ) (handle : Option Handle) (kind : Option HandleKind) (deed : Deed) (it : Plan) (eyes : List EyeState)
     → LeftBy s (treated_by s message handle (inlet_after kind deed message s.inlet) it eyes)
 left_treated s message handle kind deed it eyes = record {
-  fed = refl;
-  taken = refl;
-  handles = handles_end kind message s.inlet;
-  notes = notes_end deed message s.inlet;
+  kind = kind;
+  deed = deed;
+  inlet = refl;
   fresh = λ half. fresh half s.next_job eyes (parts_of (owed_by it (map (λ eye. eye.words) eyes)).file (owed_by it (map (λ eye. eye.words) eyes)).segments (owed_by it (map (λ eye. eye.words) eyes)).pieces);
 }
 
