@@ -4,7 +4,10 @@ use Rattle.std.proofs.lemmas.List.{append-nil}
 use Rattle.wp_outside.specs.declared.kinds.Side.{Side}
 use Rattle.wp_outside.specs.declared.kinds.Side.TheVariants.{Near, Far}
 use Rattle.half_model.specs.declared.items.PeerIn.{PeerIn}
+use Rattle.wl_objects.specs.Entries.{first_objects}
 use Rattle.half_model.specs.Inlet.{no_inlet}
+use Rattle.side_model.specs.Books.{no_book}
+use Rattle.pair_runs.proofs.Tracking.{passes_same}
 use Rattle.script_lang.specs.Puts.{is_stop}
 use Rattle.script_lang.specs.declared.steps.StepKind.{StepKind}
 use Rattle.script_lang.specs.declared.steps.StepKind.TheVariants as line
@@ -110,8 +113,10 @@ its_put : (side : Side) (played : List Played) → its side ([] ++ items_put Nea
 its_put Near played = refl
 its_put Far played = refl
 
+first_fed : (side : Side) → TakenOf side [] (no_book side) no_inlet first_objects []
+first_fed side = record { side_is = refl; ins = []; split = refl; whole = tt; left = leaves_same no_inlet; passes = passes_same side first_objects [] }
+
 pub faults_are_caused : FaultsAreCaused
 faults_are_caused steps played last it r =
-    let first : TakenOf [] [] no_inlet [] = record { ins = []; split = refl; whole = tt; left = leaves_same no_inlet } in
-    let caused = plays_fed played MOST [] [] first_state last (Fails it) (first, first) r.plays (told_by it last (runs_keep.last steps played last (Fails it) r)) in
+    let caused = plays_fed played MOST [] [] first_state last (Fails it) (first_fed Near, first_fed Far) r.plays (told_by it last (runs_keep.last steps played last (Fails it) r)) in
     subst (λ (put : List PeerIn). Caused it.side put (side_at it.side last).book (connections last) it.fault) (its_put it.side played) caused

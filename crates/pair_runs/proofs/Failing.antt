@@ -13,7 +13,6 @@ use Rattle.half_model.specs.declared.causes.Limit.TheVariants.{Connections, Trai
 use Rattle.half_model.specs.declared.causes.PeerCause.{PeerCause}
 use Rattle.half_model.specs.declared.items.PeerIn.{PeerIn}
 use Rattle.half_model.specs.declared.items.PeerIn.TheVariants as inputs
-use Rattle.half_model.specs.Inlet.{Inlet}
 use Rattle.half_model.specs.Jobs.{Done}
 use Rattle.half_model.specs.Story.{accepted_in}
 use Rattle.half_model.specs.Turn.{waits_in}
@@ -44,10 +43,12 @@ use Rattle.side_model.proofs.RowProofs.{none_after}
 use Rattle.side_model.proofs.Sounds.{wants_free}
 use Rattle.side_model.proofs.TrailDone.{whole_weighs}
 use Rattle.side_model.proofs.TrailParts.{ran, NotRun, Begins, begins, follows_room, same_weight}
-use Rattle.pair_runs.specs.Leaving.{Leaves}
+use Rattle.wl_tables.specs.declared.way.Way.{Way}
+use Rattle.wl_objects.specs.Entries.{Tracked}
+use Rattle.pair_runs.specs.Leaving.{Leaves, Passes}
 use Rattle.pair_runs.specs.Moves.{LineInPart}
-use Rattle.pair_runs.specs.Sides.{SideState, TOKEN, fed, asked, seen, side_seen}
-use Rattle.pair_runs.specs.Whys.{Waits, AtMessage, AtItem, Stands, PassesLimit, Why, RefusesLine, NextBytes, RefusesPiece}
+use Rattle.pair_runs.specs.Sides.{Inside, SideState, TOKEN, fed, asked, seen, side_seen}
+use Rattle.pair_runs.specs.Whys.{Waits, tracked_by, AtMessage, AtItem, Stands, PassesLimit, Why, RefusesLine, NextBytes, RefusesPiece}
 use Rattle.pair_runs.specs.WorkLaws.{RunsOn, FailsInPart, FedFails, CameFails, AsksFails, HandedFails, UpFails, UpLimits, LendsFails, KeptByFault}
 use Rattle.pair_runs.specs.Working.{Works, InPart, WorksInPart}
 use Rattle.pair_runs.proofs.Calling.{ok_done, fault_front, fed_base, fed_here, came_base, asks_base, quiet_still}
@@ -56,6 +57,7 @@ use Rattle.pair_runs.proofs.Ends.{front_same, front_then}
 use Rattle.pair_runs.proofs.Reasons.{halts_why, heavy_why, item_heavy, item_bars}
 use Rattle.pair_runs.proofs.Rowing.{row_works, stays_quiet}
 use Rattle.pair_runs.proofs.Showing.{treated_so}
+use Rattle.pair_runs.proofs.Tracking.{passes_then}
 
 -- ---- in part
 
@@ -91,35 +93,41 @@ then_part a b c w p = record {
 
 -- ---- why, behind good calls
 
-abbrev then_waits : (ws ts : List (List ℕ)) (a b : Inlet) → Leaves ws a b → Waits ts b → Waits (ws ++ ts) a
-then_waits ws ts a b l h = record { waits = h.waits; left = leaves_then ws ts l h.left }
+module _ (side : Side) (ws ts : List (List ℕ)) (a b : SideState) (book : Book) (l : Leaves ws a.inside.inlet b.inside.inlet) (q : Passes side l.uses a.inside.objects b.inside.objects a.book.order b.book.order) where
+  abbrev then_waits : (objects : Tracked) → Waits side ts b.inside b.book.order book objects → Waits side (ws ++ ts) a.inside a.book.order book objects
+  then_waits objects h = record {
+    waits = h.waits;
+    left = leaves_then ws ts l h.left;
+    passes = passes_then side l.uses h.left.uses a.inside.objects b.inside.objects objects a.book.order b.book.order book.order q h.passes;
+  }
 
-then_stands : (ws ts : List (List ℕ)) (a b : Inlet) (side : Side) (book : Book) (index : ℕ) (cause : PeerCause) → Leaves ws a b → Stands side None index cause ts b book → Stands side None index cause (ws ++ ts) a book
-then_stands ws ts a b side book index cause l h = record { told = h.told; index_is = h.index_is; tracked = h.tracked; at = by_place h.at }
-  where
-    by_place : AtMessage side h.told.story cause ts b ⊎ AtItem side h.told.story cause ts b None → AtMessage side h.told.story cause (ws ++ ts) a ⊎ AtItem side h.told.story cause (ws ++ ts) a None
-    by_place (inl m) = inl (record { behind = then_waits ws ts a b l m.behind; has = m.has })
-    by_place (inr i) = absurd (let never : None ≡ Some (inputs.Pipe i.pipe) = i.brought in cc)
+  then_stands : (index : ℕ) (cause : PeerCause) → Stands side None index cause ts b.inside b.book.order book → Stands side None index cause (ws ++ ts) a.inside a.book.order book
+  then_stands index cause h = record { told = h.told; index_is = h.index_is; tracked = h.tracked; at = by_place h.at }
+    where
+      by_place : AtMessage side h.told.story cause ts b.inside b.book.order book ⊎ AtItem side h.told.story cause ts b.inside b.book.order book None → AtMessage side h.told.story cause (ws ++ ts) a.inside a.book.order book ⊎ AtItem side h.told.story cause (ws ++ ts) a.inside a.book.order book None
+      by_place (inl m) = inl (record { behind = then_waits (tracked_by side h.told.story) m.behind; has = m.has })
+      by_place (inr i) = absurd (let never : None ≡ Some (inputs.Pipe i.pipe) = i.brought in cc)
 
-then_passes : (ws ts : List (List ℕ)) (a b : Inlet) (side : Side) (book : Book) (which : Limit) → Leaves ws a b → PassesLimit which side None ts b book → PassesLimit which side None (ws ++ ts) a book
-then_passes ws ts a b side book limits.File l h = record { told = h.told; behind = then_waits ws ts a b l h.behind; above = h.above }
-then_passes ws ts a b side book limits.Files l h = record { told = h.told; behind = then_waits ws ts a b l h.behind; above = h.above }
-then_passes ws ts a b side book limits.Trail l (inl h) = inl (record { told = h.told; behind = then_waits ws ts a b l h.behind; mark = h.mark; lawful = h.lawful; comes = h.comes; heavy = h.heavy })
-then_passes ws ts a b side book limits.Trail l (inr h) = absurd (let never : None ≡ Some (inputs.Pipe h.pipe) = h.brought in cc)
-then_passes ws ts a b side book limits.Connections l h = h
-then_passes ws ts a b side book limits.Input l h = h
-then_passes ws ts a b side book limits.Lines l h = h
+  then_passes : (which : Limit) → PassesLimit which side None ts b.inside b.book.order book → PassesLimit which side None (ws ++ ts) a.inside a.book.order book
+  then_passes limits.File h = record { told = h.told; behind = then_waits (tracked_by side h.told.story) h.behind; above = h.above }
+  then_passes limits.Files h = record { told = h.told; behind = then_waits (tracked_by side h.told.story) h.behind; above = h.above }
+  then_passes limits.Trail (inl h) = inl (record { told = h.told; behind = then_waits (tracked_by side h.told.story) h.behind; mark = h.mark; lawful = h.lawful; comes = h.comes; heavy = h.heavy })
+  then_passes limits.Trail (inr h) = absurd (let never : None ≡ Some (inputs.Pipe h.pipe) = h.brought in cc)
+  then_passes limits.Connections h = h
+  then_passes limits.Input h = h
+  then_passes limits.Lines h = h
 
-then_why : (hears : Bool) (fault : ProxyFault) (ws ts : List (List ℕ)) (a b : Inlet) (side : Side) (book : Book) → Leaves ws a b → Why side hears None fault ts b book → Why side hears None fault (ws ++ ts) a book
-then_why hears (faults.Frame connection place cause) ws ts a b side book l h = h
-then_why hears (faults.Peer index cause) ws ts a b side book l h = then_stands ws ts a b side book index cause l h
-then_why hears (faults.Limit which) ws ts a b side book l h = then_passes ws ts a b side book which l h
-then_why hears Memory ws ts a b side book l h = tt
+  then_why : (hears : Bool) (fault : ProxyFault) → Why side hears None fault ts b.inside b.book.order book → Why side hears None fault (ws ++ ts) a.inside a.book.order book
+  then_why hears (faults.Frame connection place cause) h = h
+  then_why hears (faults.Peer index cause) h = then_stands index cause h
+  then_why hears (faults.Limit which) h = then_passes which h
+  then_why hears Memory h = tt
 
 pub then_works : (hears : Bool) (fault : ProxyFault) (a b c : SideState) → Works true a b → WorksInPart hears None fault b c → WorksInPart hears None fault a c
 then_works hears fault a b c w p = record {
   part = then_part a b c w p.part;
-  why = then_why hears fault w.took p.part.took a.inside.inlet b.inside.inlet c.book.trail.side c.book w.inside.inlet p.why;
+  why = then_why c.book.trail.side w.took p.part.took a b c.book w.inside.inlet
+      (subst (λ (side : Side). Passes side w.inside.inlet.uses a.inside.objects b.inside.objects a.book.order b.book.order) (sym (p.part.trail.side ∙ w.trail.side)) w.passes) hears fault p.why;
 }
 
 -- ---- where a call came to
@@ -129,6 +137,10 @@ record Reached (half : ℕ) (a : SideState) (new : TrailState) (at : Now) : Type
   works : Works true a (seen half at new.book)
   follows : Follows at (closed new.book)
   token : at.token ≡ TOKEN
+
+reached_passes : (half : ℕ) (a : SideState) (new : TrailState) (at : Now) (r : Reached half a new at) → Passes at.side r.works.inside.inlet.uses a.inside.objects at.live.tables.objects.tracked a.book.order new.book.order
+reached_passes half a new at r =
+    subst (λ (side : Side). Passes side r.works.inside.inlet.uses a.inside.objects at.live.tables.objects.tracked a.book.order new.book.order) (sym r.works.trail.side ∙ r.follows.tells.side_is) r.works.passes
 
 abbrev in_part : (half : ℕ) (a : SideState) (new : TrailState) (at : Now) → Reached half a new at → InPart a (side_seen half new)
 in_part half a new at r = record {
@@ -141,7 +153,7 @@ in_part half a new at r = record {
 
 reached : (half : ℕ) (a : SideState) (new : TrailState) (s t : Now) (book : Book) (events : List Event) → Works true a (seen half s book) → FollowsOn s book → s.token ≡ TOKEN → Part s events t → new.book ≡ grow_all events s book → Reached half a new t
 reached half a new s t book events w f k part e =
-    let row : Works true a (seen half t (grow_all events s book)) = works_then true a (seen half s book) (seen half t (grow_all events s book)) w (row_works half s t book events part) in
+    let row : Works true a (seen half t (grow_all events s book)) = works_then true a (seen half s book) (seen half t (grow_all events s book)) w (row_works half s t book events f part) in
     let after : FollowsOn t (grow_all events s book) = follows_part s t book events f part in
     record {
       works = subst (λ (b : Book). Works true a (seen half t b)) (sym e) row;
@@ -172,8 +184,8 @@ reached_by half hears event a old new t events c part e =
     reached half a new (step event old.now) t (grown event old.now (closed old.book)) events c.base c.begins.after ((same_step event old.now).token ∙ c.token) part e
 
 -- the side is that of the records
-as_side : (hears : Bool) (item : Option PeerIn) (fault : ProxyFault) (took : List (List ℕ)) (all : Inlet) (book : Book) (s : Now) → Follows s book → Why s.side hears item fault took all book → Why book.trail.side hears item fault took all book
-as_side hears item fault took all book s f why = subst (λ (side : Side). Why side hears item fault took all book) (sym f.tells.side_is) why
+as_side : (hears : Bool) (item : Option PeerIn) (fault : ProxyFault) (took : List (List ℕ)) (inside : Inside) (ways : List Way) (book : Book) (s : Now) → Follows s book → Why s.side hears item fault took inside ways book → Why book.trail.side hears item fault took inside ways book
+as_side hears item fault took inside ways book s f why = subst (λ (side : Side). Why side hears item fault took inside ways book) (sym f.tells.side_is) why
 
 -- it failed at a fault that was due, or for want of memory
 failed_there : (half : ℕ) (hears : Bool) (item : Option PeerIn) (event : Event) (fault : ProxyFault) (a : SideState) (old new : TrailState) → Called half hears event a old → Fails event fault old new → WorksInPart hears item fault a (side_seen half new)
@@ -184,9 +196,9 @@ failed_there half hears item event fault a old new c d =
     omega (arith, same_weight 0 new.book, ap (λ (b : Book). weight b.trail) d.whole.book, whole_weighs old event c.begins d.events at d.stops.part d.whole.fit) in
     record {
       part = in_part half a new at r;
-      why = as_side hears item fault r.works.took a.inside.inlet (closed new.book) at r.follows (elim d.stops.due [
-        | inl halt ↦ halts_why hears item at (closed new.book) r.follows r.token weighs r.works.took a.inside.inlet r.works.inside.inlet fault (still_may hears (step event old.now) at d.events c.may d.stops.part) halt
-        | inr memory ↦ subst (λ (x : ProxyFault). Why at.side hears item x r.works.took a.inside.inlet (closed new.book)) (sym memory) tt
+      why = as_side hears item fault r.works.took a.inside a.book.order (closed new.book) at r.follows (elim d.stops.due [
+        | inl halt ↦ halts_why hears item at (closed new.book) r.follows r.token weighs r.works.took a.inside a.book.order r.works.inside.inlet (reached_passes half a new at r) fault (still_may hears (step event old.now) at d.events c.may d.stops.part) halt
+        | inr memory ↦ subst (λ (x : ProxyFault). Why at.side hears item x r.works.took a.inside a.book.order (closed new.book)) (sym memory) tt
       ]);
     }
 
@@ -207,7 +219,7 @@ heavy_there half hears item event a old new c d t part recorded rest same =
     let more : MOST_WEIGHT < weight (closed new.book).trail + mark_cost (mark_of d.heavy_event at) = omega (arith, same_weight 0 new.book, heavy) in
     record {
       part = in_part half a new at r;
-      why = as_side hears item LIMIT_TRAIL r.works.took a.inside.inlet (closed new.book) at r.follows (inl (heavy_why hears item at (closed new.book) r.follows r.token less r.works.took a.inside.inlet r.works.inside.inlet d.heavy_event split.1.0 more));
+      why = as_side hears item LIMIT_TRAIL r.works.took a.inside a.book.order (closed new.book) at r.follows (inl (heavy_why hears item at (closed new.book) r.follows r.token less r.works.took a.inside a.book.order r.works.inside.inlet (reached_passes half a new at r) d.heavy_event split.1.0 more));
     }
 
 -- at the event from outside
@@ -255,7 +267,7 @@ lacks_there half hears event fault a old new c d = elim d.first [
 ]
 
 no_memory : (hears : Bool) (item : Option PeerIn) (fault : ProxyFault) (a b : SideState) → fault ≡ Memory → InPart a b → WorksInPart hears item fault a b
-no_memory hears item fault a b e part = record { part = part; why = subst (λ (x : ProxyFault). Why b.book.trail.side hears item x part.took a.inside.inlet b.book) (sym e) tt }
+no_memory hears item fault a b e part = record { part = part; why = subst (λ (x : ProxyFault). Why b.book.trail.side hears item x part.took a.inside a.book.order b.book) (sym e) tt }
 
 -- ---- a call that brings an item, or nothing
 
@@ -263,33 +275,33 @@ no_memory hears item fault a b e part = record { part = part; why = subst (λ (x
 record Alone (item : Option PeerIn) (event : Event) (a : SideState) (old : TrailState) : Type 0 where
   same : a.book ≡ closed old.book
   light : line_cost event old.now.live.here ≡ 0
-  bars : (fault : ProxyFault) → barred event old.now ≡ Some fault → Why old.book.trail.side false item fault [] a.inside.inlet (closed old.book)
-  heavy : MOST_WEIGHT < weight (closed old.book).trail + mark_cost (mark_of event old.now) → PassesLimit limits.Trail old.book.trail.side item [] a.inside.inlet (closed old.book)
+  bars : (fault : ProxyFault) → barred event old.now ≡ Some fault → Why old.book.trail.side false item fault [] a.inside a.book.order (closed old.book)
+  heavy : MOST_WEIGHT < weight (closed old.book).trail + mark_cost (mark_of event old.now) → PassesLimit limits.Trail old.book.trail.side item [] a.inside a.book.order (closed old.book)
 
-at_once : (half : ℕ) (item : Option PeerIn) (fault : ProxyFault) (a : SideState) (old new : TrailState) → a.book ≡ closed old.book → new.book ≡ closed old.book → Why old.book.trail.side false item fault [] a.inside.inlet (closed old.book) → WorksInPart false item fault a (side_seen half new)
+at_once : (half : ℕ) (item : Option PeerIn) (fault : ProxyFault) (a : SideState) (old new : TrailState) → a.book ≡ closed old.book → new.book ≡ closed old.book → Why old.book.trail.side false item fault [] a.inside a.book.order (closed old.book) → WorksInPart false item fault a (side_seen half new)
 at_once half item fault a old new same e why =
     let is : (side_seen half new).book ≡ a.book = ap closed e ∙ sym same in
     let n : Nothing a (side_seen half new) = nothing_took a (side_seen half new) is in
     record {
       part = n.part;
-      why = subst (λ (took : List (List ℕ)). Why (side_seen half new).book.trail.side false item fault took a.inside.inlet (side_seen half new).book) (sym n.none)
-          (subst (λ (book : Book). Why book.trail.side false item fault [] a.inside.inlet book) (sym (is ∙ same)) why);
+      why = subst (λ (took : List (List ℕ)). Why (side_seen half new).book.trail.side false item fault took a.inside a.book.order (side_seen half new).book) (sym n.none)
+          (subst (λ (book : Book). Why book.trail.side false item fault [] a.inside a.book.order book) (sym (is ∙ same)) why);
     }
 
 fails_so : (half : ℕ) (item : Option PeerIn) (event : Event) (fault : ProxyFault) (a : SideState) (old new : TrailState) → Called half false event a old → Alone item event a old → FailsSo event fault old new → WorksInPart false item fault a (side_seen half new)
 fails_so half item event fault a old new c k (HeavyAtOnce e d) =
     absurd (omega (arith, d.heavy, k.light, c.begins.weighs, same_weight 0 old.book))
 fails_so half item event fault a old new c k (HeavyThen e d) = elim (stops_there half false item event a old new c d) [
-  | inl first ↦ at_once half item fault a old new k.same first.book (subst (λ (x : ProxyFault). Why old.book.trail.side false item x [] a.inside.inlet (closed old.book)) (sym e) (k.heavy (omega (arith, first.heavy, same_weight 0 old.book))))
+  | inl first ↦ at_once half item fault a old new k.same first.book (subst (λ (x : ProxyFault). Why old.book.trail.side false item x [] a.inside a.book.order (closed old.book)) (sym e) (k.heavy (omega (arith, first.heavy, same_weight 0 old.book))))
   | inr there ↦ subst (λ (x : ProxyFault). WorksInPart false item x a (side_seen half new)) (sym e) there
 ]
 fails_so half item event fault a old new c k (Failed d) = failed_there half false item event fault a old new c d
 fails_so half item event fault a old new c k (FailedAtOnce d) = elim d.because [
   | inl bar ↦ at_once half item fault a old new k.same d.book (k.bars fault bar)
-  | inr memory ↦ at_once half item fault a old new k.same d.book (subst (λ (x : ProxyFault). Why old.book.trail.side false item x [] a.inside.inlet (closed old.book)) (sym memory) tt)
+  | inr memory ↦ at_once half item fault a old new k.same d.book (subst (λ (x : ProxyFault). Why old.book.trail.side false item x [] a.inside a.book.order (closed old.book)) (sym memory) tt)
 ]
 fails_so half item event fault a old new c k (NoMemory d) = elim (lacks_there half false event fault a old new c d) [
-  | inl none ↦ at_once half item fault a old new k.same none (subst (λ (x : ProxyFault). Why old.book.trail.side false item x [] a.inside.inlet (closed old.book)) (sym d.memory) tt)
+  | inl none ↦ at_once half item fault a old new k.same none (subst (λ (x : ProxyFault). Why old.book.trail.side false item x [] a.inside a.book.order (closed old.book)) (sym d.memory) tt)
   | inr some ↦ no_memory false item fault a (side_seen half new) d.memory some
 ]
 
@@ -341,11 +353,11 @@ fed_alone half item old b token = by_item item b.admits
       same = refl;
       light = refl;
       bars = λ fault bar.
-          as_side false (Some (inputs.Pipe pipe)) fault [] old.now.live.sending.inlet (closed old.book) old.now b.follows.follows
-          (item_bars old.now (closed old.book) b.follows.follows token b.weighs quiet (still_waits old.now b.runs.rests) admits.0 (inputs.Pipe pipe) fault bar);
+          as_side false (Some (inputs.Pipe pipe)) fault [] (side_seen half old).inside (side_seen half old).book.order (closed old.book) old.now b.follows.follows
+          (item_bars old.now (closed old.book) b.follows.follows token b.weighs quiet (side_seen half old).inside (side_seen half old).book.order refl (still_waits old.now b.runs.rests) admits.0 (inputs.Pipe pipe) fault bar);
       heavy = λ heavy.
-          as_side false (Some (inputs.Pipe pipe)) LIMIT_TRAIL [] old.now.live.sending.inlet (closed old.book) old.now b.follows.follows
-          (inr (item_heavy old.now (closed old.book) b.follows.follows token b.weighs quiet (still_waits old.now b.runs.rests) (inputs.Pipe pipe) heavy));
+          as_side false (Some (inputs.Pipe pipe)) LIMIT_TRAIL [] (side_seen half old).inside (side_seen half old).book.order (closed old.book) old.now b.follows.follows
+          (inr (item_heavy old.now (closed old.book) b.follows.follows token b.weighs quiet (side_seen half old).inside (side_seen half old).book.order refl (still_waits old.now b.runs.rests) (inputs.Pipe pipe) heavy));
     }
 
 pub fed_fails : FedFails

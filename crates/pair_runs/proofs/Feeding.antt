@@ -6,6 +6,10 @@ use Rattle.std.proofs.lemmas.List.Concat.{flat_map-append}
 use Rattle.std.specs.List.{AllByRecursion}
 use Rattle.wl_wire.specs.Wire.{joined, IsMessage}
 use Rattle.wp_outside.specs.declared.kinds.HandleKind.{HandleKind}
+use Rattle.wp_outside.specs.declared.kinds.Side.{Side}
+use Rattle.wl_objects.specs.Entries.{Tracked, first_objects}
+use Rattle.pair_model.specs.Lines.{Line}
+use Rattle.side_model.specs.Books.{Book}
 use Rattle.handle_table.specs.declared.handles.Handle.{Handle}
 use Rattle.shm_pools.specs.declared.notes.Note.{Note}
 use Rattle.half_model.specs.declared.deeds.Deed.{Deed}
@@ -13,13 +17,14 @@ use Rattle.half_model.specs.declared.deeds.Deed.TheVariants.{Commit, Keymap}
 use Rattle.half_model.specs.declared.items.PeerIn.{PeerIn}
 use Rattle.half_model.specs.declared.items.PeerIn.TheVariants as items
 use Rattle.half_model.specs.Inlet.{Inlet, no_inlet, with_bytes, with_handle, with_note, with_item, end_of, without_ready, handles_left, notes_left, inlet_after}
-use Rattle.pair_runs.specs.Leaving.{Use, after_uses, Leaves}
+use Rattle.pair_runs.specs.Leaving.{Use, after_uses, Leaves, Passes}
 use Rattle.pair_runs.specs.Putting.{spread_item, spread, with_items, inlet_of, TakenOf}
 use Rattle.pair_runs.specs.Runs.{bytes_in}
-use Rattle.pair_runs.specs.Sides.{SideState, fed}
+use Rattle.pair_runs.specs.Sides.{SideState, fed, on_rows}
 use Rattle.pair_runs.specs.Taking.{behind, piece_size, cut_item}
-use Rattle.pair_runs.specs.Working.{Works}
+use Rattle.pair_runs.specs.Working.{Grows, Works}
 use Rattle.pair_runs.proofs.Composing.{all_then, leaves_then}
+use Rattle.pair_runs.proofs.Tracking.{passes_then}
 
 -- ---- an inlet with items
 
@@ -133,7 +138,7 @@ use_before (items.Note note) kind deed message rest inlet c e =
     (note_before deed message note inlet (omega (arith, c, ap length e, length-append message rest)))
 use_before (items.Pipe item) kind deed message rest inlet c e = refl
 
-uses_before : (item : PeerIn) (uses : List Use) (rest : List ℕ) (inlet : Inlet) → IsCounted inlet → inlet.bytes ≡ joined (map (λ it. it.message) uses) ++ rest → after_uses uses (with_item item inlet) ≡ with_item item (after_uses uses inlet)
+pub uses_before : (item : PeerIn) (uses : List Use) (rest : List ℕ) (inlet : Inlet) → IsCounted inlet → inlet.bytes ≡ joined (map (λ it. it.message) uses) ++ rest → after_uses uses (with_item item inlet) ≡ with_item item (after_uses uses inlet)
 uses_before item [] rest inlet c e = refl
 uses_before item (it ∷ uses) rest inlet c e =
     let behind : List ℕ = joined (map (λ it. it.message) uses) ++ rest in
@@ -142,14 +147,14 @@ uses_before item (it ∷ uses) rest inlet c e =
     ap (after_uses uses) (use_before item it.kind it.deed it.message behind inlet c front)
     ∙ uses_before item uses rest (inlet_after it.kind it.deed it.message inlet) (omega (arith, c, ap length front, length-append it.message behind, ap length left)) left
 
-with_bytes_left : (item : PeerIn) (took : List (List ℕ)) (all left : Inlet) → all.bytes ≡ joined took ++ left.bytes → (with_item item all).bytes ≡ joined took ++ (with_item item left).bytes
+pub with_bytes_left : (item : PeerIn) (took : List (List ℕ)) (all left : Inlet) → all.bytes ≡ joined took ++ left.bytes → (with_item item all).bytes ≡ joined took ++ (with_item item left).bytes
 with_bytes_left (items.Bytes piece) took all left e = ap (λ (bytes : List ℕ). bytes ++ piece) e ∙ append_assoc (joined took) left.bytes piece
 with_bytes_left (items.Handle handle) took all left e = e
 with_bytes_left (items.Note note) took all left e = e
 with_bytes_left (items.Pipe item) took all left e = e
 
 -- one item more goes in, and waits behind what was left
-pub with_left : (item : PeerIn) (took : List (List ℕ)) (all left : Inlet) → IsCounted all → Leaves took all left → Leaves took (with_item item all) (with_item item left)
+abbrev pub with_left : (item : PeerIn) (took : List (List ℕ)) (all left : Inlet) → IsCounted all → Leaves took all left → Leaves took (with_item item all) (with_item item left)
 with_left item took all left c l = record {
   uses = l.uses;
   took_is = l.took_is;
@@ -161,8 +166,8 @@ with_left item took all left c l = record {
 
 -- ---- a side
 
-abbrev pub FedAt : List PeerIn → SideState → List PeerIn → Type 0
-FedAt put it wire = TakenOf put it.book.trail.taken it.inside.inlet (spread wire)
+abbrev pub FedAt : Side → List PeerIn → SideState → List PeerIn → Type 0
+FedAt side put it wire = TakenOf side put it.book it.inside.inlet it.inside.objects (spread wire)
 
 take_drop : (n : ℕ) (xs : List ℕ) → take n xs ++ drop n xs ≡ xs
 take_drop zero xs = refl
@@ -184,35 +189,50 @@ cut_spread most (items.Handle handle) wire = refl
 cut_spread most (items.Note note) wire = refl
 cut_spread most (items.Pipe item) wire = refl
 
-pub fed_in : (put : List PeerIn) (most : ℕ) (item : PeerIn) (wire : List PeerIn) (a : SideState) → FedAt put a (item ∷ wire) → FedAt put (fed (cut_item most item wire).item a) (cut_item most item wire).rest
-fed_in put most item wire a h =
+pub fed_in : (side : Side) (put : List PeerIn) (most : ℕ) (item : PeerIn) (wire : List PeerIn) (a : SideState) → FedAt side put a (item ∷ wire) → FedAt side put (fed (cut_item most item wire).item a) (cut_item most item wire).rest
+fed_in side put most item wire a h =
     let it = cut_item most item wire in
+    let all : inlet_of (h.ins ++ spread_item it.item) ≡ with_item it.item (inlet_of h.ins) = with_items_then h.ins (spread_item it.item) no_inlet ∙ spread_in it.item (inlet_of h.ins) in
+    let l : Leaves a.book.trail.taken (with_item it.item (inlet_of h.ins)) (with_item it.item a.inside.inlet) = with_left it.item a.book.trail.taken (inlet_of h.ins) a.inside.inlet (items_counted h.ins no_inlet (omega arith)) h.left in
     record {
+      side_is = h.side_is;
       ins = h.ins ++ spread_item it.item;
       split = append_assoc h.ins (spread_item it.item) (spread it.rest) ∙ ap (λ (rest : List PeerIn). h.ins ++ rest) (cut_spread most item wire) ∙ h.split;
       whole = h.whole;
-      left = subst (λ (all : Inlet). Leaves a.book.trail.taken all (with_item it.item a.inside.inlet)) (sym (with_items_then h.ins (spread_item it.item) _ ∙ spread_in it.item (inlet_of h.ins)))
-          (with_left it.item a.book.trail.taken (inlet_of h.ins) a.inside.inlet (items_counted h.ins no_inlet (omega arith)) h.left);
+      left = record { uses = h.left.uses; took_is = h.left.took_is; left_is = l.left_is ∙ ap (after_uses h.left.uses) (sym all); bytes = ap (λ (inlet : Inlet). inlet.bytes) all ∙ l.bytes };
+      passes = h.passes;
     }
 
 -- messages are taken
-pub taken_on : (put : List PeerIn) (taken took : List (List ℕ)) (more : List (List ℕ)) (waits left : Inlet) (others : List PeerIn) → more ≡ taken ++ took → AllByRecursion IsMessage took → Leaves took waits left
-    → TakenOf put taken waits others → TakenOf put more left others
-taken_on put taken took more waits left others e whole l h = record {
-  ins = h.ins;
-  split = h.split;
-  whole = subst (λ (ms : List (List ℕ)). AllByRecursion IsMessage ms) (sym e) (all_then IsMessage taken took h.whole whole);
-  left = subst (λ (ms : List (List ℕ)). Leaves ms (inlet_of h.ins) left) (sym e) (leaves_then taken took h.left l);
-}
+abbrev pub taken_on : (side : Side) (put : List PeerIn) (a b : Book) (took : List (List ℕ)) (waits left : Inlet) (objects after : Tracked) (others : List PeerIn) → Grows took a.trail b.trail → AllByRecursion IsMessage took → (l : Leaves took waits left)
+    → Passes side l.uses objects after a.order b.order → TakenOf side put a waits objects others → TakenOf side put b left after others
+taken_on side put a b took waits left objects after others g whole l p h =
+    let both : Leaves (a.trail.taken ++ took) (inlet_of h.ins) left = leaves_then a.trail.taken took h.left l in
+    record {
+      side_is = g.side ∙ h.side_is;
+      ins = h.ins;
+      split = h.split;
+      whole = subst (λ (ms : List (List ℕ)). AllByRecursion IsMessage ms) (sym g.taken) (all_then IsMessage a.trail.taken took h.whole whole);
+      left = record { uses = h.left.uses ++ l.uses; took_is = g.taken ∙ both.took_is; left_is = both.left_is; bytes = both.bytes ∙ ap (λ (ms : List (List ℕ)). joined ms ++ left.bytes) (sym g.taken) };
+      passes = passes_then side h.left.uses l.uses first_objects objects after [] a.order b.order h.passes p;
+    }
 
-pub works_fed : (hears : Bool) (put : List PeerIn) (a b : SideState) (wire : List PeerIn) → Works hears a b → FedAt put a wire → FedAt put b wire
-works_fed hears put a b wire w h = taken_on put a.book.trail.taken w.took b.book.trail.taken a.inside.inlet b.inside.inlet (spread wire) w.trail.taken w.inside.messages w.inside.inlet h
+pub works_fed : (hears : Bool) (side : Side) (put : List PeerIn) (a b : SideState) (wire : List PeerIn) → Works hears a b → FedAt side put a wire → FedAt side put b wire
+works_fed hears side put a b wire w h =
+    taken_on side put a.book b.book w.took a.inside.inlet b.inside.inlet a.inside.objects b.inside.objects (spread wire) w.trail w.inside.messages w.inside.inlet
+    (subst (λ (it : Side). Passes it w.inside.inlet.uses a.inside.objects b.inside.objects a.book.order b.book.order) h.side_is w.passes) h
+
+-- the lines play no part
+pub rows_fed : (side : Side) (put : List PeerIn) (a : SideState) (wire : List PeerIn) (change : List Line → List Line) → FedAt side put a wire → FedAt side put (on_rows change a) wire
+rows_fed side put a wire change h = record { side_is = h.side_is; ins = h.ins; split = h.split; whole = h.whole; left = h.left; passes = h.passes }
 
 -- more is put
-abbrev pub put_more : (put more : List PeerIn) (taken : List (List ℕ)) (waits : Inlet) (others : List PeerIn) → TakenOf put taken waits others → TakenOf (put ++ more) taken waits (others ++ spread more)
-put_more put more taken waits others h = record {
+abbrev pub put_more : (side : Side) (put more : List PeerIn) (book : Book) (waits : Inlet) (objects : Tracked) (others : List PeerIn) → TakenOf side put book waits objects others → TakenOf side (put ++ more) book waits objects (others ++ spread more)
+put_more side put more book waits objects others h = record {
+  side_is = h.side_is;
   ins = h.ins;
   split = sym (append_assoc h.ins others (spread more)) ∙ ap (λ (front : List PeerIn). front ++ spread more) h.split ∙ sym (flat_map-append spread_item put more);
   whole = h.whole;
   left = h.left;
+  passes = h.passes;
 }

@@ -5,6 +5,7 @@ use Rattle.std.specs.List.{AllByRecursion}
 use Rattle.plain_lists.specs.Fronts.{IsFront}
 use Rattle.wl_wire.specs.Wire.{first, joined, IsMessage}
 use Rattle.wl_wire.proofs.FrontLemmas.{first-message}
+use Rattle.half_model.specs.Inlet.{Inlet}
 use Rattle.half_model.specs.Turn.{stands_in}
 use Rattle.half_model.specs.declared.items.PeerIn.{PeerIn}
 use Rattle.side_model.specs.Books.{TrailRecord}
@@ -69,8 +70,8 @@ works_later : (hears : Bool) (a b : SideState) → Works hears a b → Later a b
 works_later hears a b w = record {
   grown = grown_by w.took a b w.trail w.order;
   shut = λ s.
-      let same : b.inside ≡ a.inside = w.inside.none (none_taken w.took a.inside b.inside.inlet.bytes w.inside.messages w.inside.inlet.bytes s.still) in
-      record { said = ap (λ (inside : Inside). inside.asked) same ∙ s.said; still = ap (λ (inside : Inside). stands_in (first inside.inlet.bytes)) same ∙ s.still };
+      let same : b.inside.inlet ≡ a.inside.inlet = w.inside.none (none_taken w.took a.inside b.inside.inlet.bytes w.inside.messages w.inside.inlet.bytes s.still) in
+      record { said = w.inside.asked ∙ s.said; still = ap (λ (inlet : Inlet). stands_in (first inlet.bytes)) same ∙ s.still };
   none = λ s. same_taken w.took a.book.trail b.book.trail w.trail (none_taken w.took a.inside b.inside.inlet.bytes w.inside.messages w.inside.inlet.bytes s.still);
 }
 

@@ -1,6 +1,7 @@
 pub mod Ends
 pub mod Composing
 pub mod Turning
+pub mod Tracking
 pub mod Rowing
 pub mod Calling
 pub mod Weights

@@ -46,7 +46,8 @@ on_same change hears a b w = record {
     accepted = w.trail.accepted;
   };
   order = w.order;
-  silent = λ e. record { accepted = (w.silent e).accepted; acknowledged = (w.silent e).acknowledged; given = (w.silent e).given; order = (w.silent e).order };
+  passes = record { order = w.passes.order; tracked = w.passes.tracked; uses_are = w.passes.uses_are; ways_are = w.passes.ways_are };
+  silent = λ e. record { accepted = (w.silent e).accepted; acknowledged = (w.silent e).acknowledged; given = (w.silent e).given; order = (w.silent e).order; objects = (w.silent e).objects };
 }
 
 last_read : (one other : List ℕ) (rows : List Line) → on_last (with_read other) (on_last (with_read one) rows) ≡ on_last (with_read (one ++ other)) rows

@@ -1,13 +1,11 @@
 -- Why a fault is due where the records follow a proxy, or where an event is too heavy: the cause stands at what waits there, or the limit is passed.
-use Rattle.std.proofs.Common.{◌≡◌, ℕ, ◌+◌, ◌<◌, ◌≤◌, List, [], ◌∷◌, Bool, true, false, Option, Some, None, Result, Ok, length, refl, sym, ap, subst, ◌∙◌, arith, inl, inr, ◌⊎◌, if◌then◌else◌}
+use Rattle.std.proofs.Common.{◌≡◌, ℕ, ◌+◌, ◌<◌, ◌≤◌, List, [], ◌∷◌, Bool, true, false, Option, Some, None, length, refl, sym, ap, subst, ◌∙◌, arith, inl, inr, ◌⊎◌, if◌then◌else◌}
 use Rattle.std.specs.Prelude.{is_none}
 use Rattle.std.specs.Option.{MatchOption}
 use Rattle.wp_outside.specs.declared.kinds.Side.{Side}
 use Rattle.wp_outside.specs.declared.pipe_items.PipeItem.{PipeItem}
 use Rattle.wp_outside.specs.declared.pipe_items.PipeItem.TheVariants as pieces
-use Rattle.wl_objects.specs.Entries.{Tracked, first_objects}
-use Rattle.wl_objects.specs.Tracking.{track}
-use Rattle.wl_wire.specs.declared.faults.ObjectFault.{ObjectFault}
+use Rattle.wl_tables.specs.declared.way.Way.{Way}
 use Rattle.wl_wire.specs.Wire.{first}
 use Rattle.wl_wire.proofs.FrontLemmas.{first-message}
 use Rattle.transfer_frames.specs.declared.frame.Frame.{Frame}
@@ -24,7 +22,6 @@ use Rattle.half_model.specs.declared.causes.PeerCause.TheVariants.{PipeUnknown}
 use Rattle.half_model.specs.declared.items.PeerIn.{PeerIn}
 use Rattle.half_model.specs.declared.items.PeerIn.TheVariants as inputs
 use Rattle.half_model.specs.Group.{Owed}
-use Rattle.half_model.specs.Inlet.{Inlet}
 use Rattle.half_model.specs.Log as marks
 use Rattle.half_model.specs.Log.{Mark, LogState, Lawful, MayMake}
 use Rattle.half_model.specs.PipeTurn as pipes
@@ -32,10 +29,9 @@ use Rattle.half_model.specs.PipeTurn.{PipeTurn, pipe_turn, named_turn, made_turn
 use Rattle.half_model.specs.Story.{accepted_in, order_in}
 use Rattle.half_model.specs.StoryLaws.{now}
 use Rattle.half_model.specs.Turn as turns
-use Rattle.half_model.specs.Turn.{Turn, turn, Treated, MadeGroup, group_due, waits_in}
+use Rattle.half_model.specs.Turn.{Turn, turn, Treated, MadeGroup, group_due, waits_in, stands_in}
 use Rattle.half_model.specs.TurnLaws.{log_of, IsTaken, taken_mark}
 use Rattle.half_model.proofs.Shown.{order_is_tracked}
-use Rattle.half_model.proofs.Sound.{sound_now}
 use Rattle.half_model.proofs.Turns.{turn_is_lawful}
 use Rattle.pair_model.specs.Wire.{Wire}
 use Rattle.pipe_relay.specs.Pipes.{is_unknown, after_item, frame_of_item}
@@ -49,15 +45,15 @@ use Rattle.side_model.specs.Follows.{Follows, Rests, ClosingFollows, log_state}
 use Rattle.side_model.specs.Marks.{mark_of, mark_taken, mark_grouped, mark_ended, mark_pipe}
 use Rattle.side_model.specs.Places.{places_in, side_of}
 use Rattle.side_model.specs.Shows.{has_made_close, wants_peer}
-use Rattle.side_model.specs.State.{Now, Closing, Open, Asked, Made}
-use Rattle.side_model.proofs.Calms.{waits_idle}
+use Rattle.side_model.specs.State.{Now, Closing, Asked}
 use Rattle.side_model.proofs.Dues.{DueIn, InHear, InGroup, InTreat, InEnd, InChoose, due_in, or_next_halt, frame_refused, TurnRefused, turn_refused, no_halt_in_group, no_halt_in_end, no_halt_in_choose, is_quiet, frame_due, GroupDue, group_is_due, TurnDue, turn_due, EndDue, end_is_due, choice_due}
 use Rattle.side_model.proofs.FollowsWork.{Owing, owing}
 use Rattle.side_model.proofs.Links.{link_down}
 use Rattle.pair_runs.specs.Causes.{HasCause, MessageHas, IsUnknown, TellsAbove}
-use Rattle.pair_runs.specs.Leaving.{Leaves}
-use Rattle.pair_runs.specs.Sides.{TOKEN}
-use Rattle.pair_runs.specs.Whys.{Told, IsMade, AddsTooMuch, MakesTooMuch, PassesLimit, Why}
+use Rattle.pair_runs.specs.Leaving.{Leaves, Passes}
+use Rattle.pair_runs.specs.Sides.{Inside, TOKEN}
+use Rattle.pair_runs.specs.Whys.{Told, Waits, tracked_by, IsMade, AddsTooMuch, MakesTooMuch, PassesLimit, Why}
+use Rattle.pair_runs.proofs.Tracking.{same_side, tracked_there, taken_before}
 use Rattle.pair_runs.proofs.Refusals.{OnFault, refused_so_by}
 
 -- ---- the story
@@ -94,42 +90,41 @@ limit_told s book f q e w which = record {
   weighs = w;
 }
 
-same_side : (s : Now) (book : Book) → Follows s book → s.live.tables.handles.side ≡ s.side
-same_side s book f = ap (λ (state : LogState). state.tables.handles.side) (sym f.after) ∙ (sound_now s.side f.story f.log).tables.0
-
-abbrev tracked_as : Tracked → Result Tracked ObjectFault
-tracked_as objects = Ok objects
-
-tracked_there : (s : Now) (book : Book) (f : Follows s book) → track first_objects (order_in s.side f.story) ≡ Ok s.live.tables.objects.tracked
-tracked_there s book f = order_is_tracked.tracked s.side f.story f.log ∙ ap (λ (state : LogState). tracked_as state.tables.objects.tracked) f.after
-
 -- ---- a message that is refused
 
-module _ (hears : Bool) (item : Option PeerIn) (s : Now) (book : Book) (f : Follows s book) (token : s.token ≡ TOKEN) (w : weight book.trail ≤ MOST_WEIGHT) (took : List (List ℕ)) (all : Inlet) (left : Leaves took all s.live.sending.inlet) where
-  by_message : hear s ≡ Rest → (fault : HalfFault) → turn s.live.tables s.live.sending ≡ turns.Refuses fault → Why s.side hears item (fault_of fault) took all book
+module _ (hears : Bool) (item : Option PeerIn) (s : Now) (book : Book) (f : Follows s book) (token : s.token ≡ TOKEN) (w : weight book.trail ≤ MOST_WEIGHT) (took : List (List ℕ)) (inside : Inside) (ways : List Way) (left : Leaves took inside.inlet s.live.sending.inlet) (passes : Passes s.side left.uses inside.objects s.live.tables.objects.tracked ways book.order) where
+  -- what waits there
+  abbrev there : Waits s.side took inside ways book (tracked_by s.side f.story)
+  there = record {
+    waits = s.live.sending.inlet;
+    left = left;
+    passes = subst (λ (state : LogState). Passes s.side left.uses inside.objects state.tables.objects.tracked ways book.order) (sym f.after) passes;
+  }
+
+  by_message : hear s ≡ Rest → (fault : HalfFault) → turn s.live.tables s.live.sending ≡ turns.Refuses fault → Why s.side hears item (fault_of fault) took inside ways book
   by_message q (halves.Peer index cause) e =
-      let there : OnFault s.live.tables s.live.sending s.live.taking (has_made_close s.kept.closing) (order_in s.side f.story) (tracked_there s book f) (halves.Peer index cause) =
+      let found : OnFault s.live.tables s.live.sending s.live.taking (has_made_close s.kept.closing) (order_in s.side f.story) (tracked_there s book f) (halves.Peer index cause) =
       refused_so_by s.live.tables s.live.sending s.live.taking (has_made_close s.kept.closing) (order_in s.side f.story) (tracked_there s book f) (halves.Peer index cause) e in
       let has : MessageHas s.side f.story s.live.sending.inlet cause =
       subst (λ (state : LogState). HasCause s.side state (order_in s.side f.story) s.live.sending.inlet cause) (sym f.after)
-      (subst (λ (side : Side). HasCause side (log_state s) (order_in s.side f.story) s.live.sending.inlet cause) (same_side s book f) there.1) in
+      (subst (λ (side : Side). HasCause side (log_state s) (order_in s.side f.story) s.live.sending.inlet cause) (same_side s book f) found.1) in
       record {
-        told = peer_told s book f q token w index cause (there.0 ∙ f.taken);
-        index_is = there.0 ∙ f.taken;
+        told = peer_told s book f q token w index cause (found.0 ∙ f.taken);
+        index_is = found.0 ∙ f.taken;
         tracked = order_is_tracked.tracked s.side f.story f.log;
-        at = inl (record { behind = record { waits = s.live.sending.inlet; left = left }; has = has });
+        at = inl (record { behind = there; has = has });
       }
-  by_message q (halves.Limit which) e = by_which which there
+  by_message q (halves.Limit which) e = by_which which tells
     where
-      there : TellsAbove which s.side (now s.side f.story) s.live.sending.inlet
-      there =
+      tells : TellsAbove which s.side (now s.side f.story) s.live.sending.inlet
+      tells =
           subst (λ (state : LogState). TellsAbove which s.side state s.live.sending.inlet) (sym f.after)
           (subst (λ (side : Side). TellsAbove which side (log_state s) s.live.sending.inlet) (same_side s book f)
           (refused_so_by s.live.tables s.live.sending s.live.taking (has_made_close s.kept.closing) (order_in s.side f.story) (tracked_there s book f) (halves.Limit which) e))
 
-      by_which : (which : Limit) → TellsAbove which s.side (now s.side f.story) s.live.sending.inlet → PassesLimit which s.side item took all book
-      by_which limits.File h = record { told = limit_told s book f q token w limits.File; behind = record { waits = s.live.sending.inlet; left = left }; above = h }
-      by_which limits.Files h = record { told = limit_told s book f q token w limits.Files; behind = record { waits = s.live.sending.inlet; left = left }; above = h }
+      by_which : (which : Limit) → TellsAbove which s.side (now s.side f.story) s.live.sending.inlet → PassesLimit which s.side item took inside ways book
+      by_which limits.File h = record { told = limit_told s book f q token w limits.File; behind = there; above = h }
+      by_which limits.Files h = record { told = limit_told s book f q token w limits.Files; behind = there; above = h }
       by_which limits.Trail h = absurd h.above
       by_which limits.Connections h = absurd h.above
       by_which limits.Input h = absurd h.above
@@ -138,73 +133,64 @@ module _ (hears : Bool) (item : Option PeerIn) (s : Now) (book : Book) (f : Foll
 
   -- ---- a fault that is due
 
-  pub halts_why : (fault : ProxyFault) → (hears ≡ true) ⊎ (hear s ≡ Rest) → next s ≡ Halt fault → Why s.side hears item fault took all book
+  pub halts_why : (fault : ProxyFault) → (hears ≡ true) ⊎ (hear s ≡ Rest) → next s ≡ Halt fault → Why s.side hears item fault took inside ways book
   unfolding next work
   halts_why fault may h = by_hear (or_next_halt (hear s) (work s) fault h)
     where
-      by_end : (end s ≡ Halt fault) ⊎ ((end s ≡ Rest) × (choose s ≡ Halt fault)) → Why s.side hears item fault took all book
+      by_end : (end s ≡ Halt fault) ⊎ ((end s ≡ Rest) × (choose s ≡ Halt fault)) → Why s.side hears item fault took inside ways book
       by_end (inl e) = absurd (no_halt_in_end s fault e)
       by_end (inr e) = absurd (no_halt_in_choose s fault e.1)
 
-      by_treat : hear s ≡ Rest → (treat s ≡ Halt fault) ⊎ ((treat s ≡ Rest) × (or_next (end s) (choose s) ≡ Halt fault)) → Why s.side hears item fault took all book
+      by_treat : hear s ≡ Rest → (treat s ≡ Halt fault) ⊎ ((treat s ≡ Rest) × (or_next (end s) (choose s) ≡ Halt fault)) → Why s.side hears item fault took inside ways book
       by_treat q (inl e) =
           let t : TurnRefused s fault = turn_refused s fault e in
-          subst (λ (x : ProxyFault). Why s.side hears item x took all book) (sym t.is) (by_message q t.cause t.refuses)
+          subst (λ (x : ProxyFault). Why s.side hears item x took inside ways book) (sym t.is) (by_message q t.cause t.refuses)
       by_treat q (inr e) = by_end (or_next_halt (end s) (choose s) fault e.1)
 
-      by_group : hear s ≡ Rest → (group s ≡ Halt fault) ⊎ ((group s ≡ Rest) × (or_next (treat s) (or_next (end s) (choose s)) ≡ Halt fault)) → Why s.side hears item fault took all book
+      by_group : hear s ≡ Rest → (group s ≡ Halt fault) ⊎ ((group s ≡ Rest) × (or_next (treat s) (or_next (end s) (choose s)) ≡ Halt fault)) → Why s.side hears item fault took inside ways book
       by_group q (inl e) = absurd (no_halt_in_group s fault e)
       by_group q (inr e) = by_treat q (or_next_halt (treat s) (or_next (end s) (choose s)) fault e.1)
 
-      by_frame : hear s ≡ Halt fault → (hears ≡ true) ⊎ (hear s ≡ Rest) → Why s.side hears item fault took all book
-      by_frame e (inl hearing) = subst (λ (x : ProxyFault). Why s.side hears item x took all book) (sym (frame_refused s fault e).is) hearing
+      by_frame : hear s ≡ Halt fault → (hears ≡ true) ⊎ (hear s ≡ Rest) → Why s.side hears item fault took inside ways book
+      by_frame e (inl hearing) = subst (λ (x : ProxyFault). Why s.side hears item x took inside ways book) (sym (frame_refused s fault e).is) hearing
       by_frame e (inr quiet) = absurd (let never : Halt fault ≡ Rest = sym e ∙ quiet in cc)
 
-      by_hear : (hear s ≡ Halt fault) ⊎ ((hear s ≡ Rest) × (work s ≡ Halt fault)) → Why s.side hears item fault took all book
+      by_hear : (hear s ≡ Halt fault) ⊎ ((hear s ≡ Rest) × (work s ≡ Halt fault)) → Why s.side hears item fault took inside ways book
       by_hear (inl e) = by_frame e may
       by_hear (inr e) = by_group e.0 (or_next_halt (group s) (or_next (treat s) (or_next (end s) (choose s))) fault e.1)
 
   -- ---- an event that is too heavy
 
-  -- behind CLOSE nothing waits
-  not_made_yet : (it : Treated) → turn s.live.tables s.live.sending ≡ turns.Takes it → (closing : Closing) → s.kept.closing ≡ closing → has_made_close closing ≡ false
-  not_made_yet it e Open k = refl
-  not_made_yet it e (Asked reason) k = refl
-  not_made_yet it e Made k =
-      let none : (is_none s.live.sending.owes ≡ true) × (waits_in s.live.sending ≡ false) = subst (λ (c : Closing). ClosingFollows c (is_none s.live.sending.owes) (waits_in s.live.sending)) k f.closes in
-      let idle : turn s.live.tables s.live.sending ≡ turns.Idle = waits_idle s.live.tables s.live.sending none.1 in
-      absurd (let never : turns.Idle ≡ turns.Takes it = sym idle ∙ e in cc)
-
   abbrev Heavy : Option Mark → Type 0
   Heavy mark = MOST_WEIGHT < weight book.trail + mark_cost mark
 
-  takes_heavy : hear s ≡ Rest → (it : Treated) → turn s.live.tables s.live.sending ≡ turns.Takes it → Heavy (Some (taken_mark it)) → AddsTooMuch s.side took all book
+  takes_heavy : hear s ≡ Rest → (it : Treated) → turn s.live.tables s.live.sending ≡ turns.Takes it → Heavy (Some (taken_mark it)) → AddsTooMuch s.side took inside ways book
   takes_heavy q it e heavy =
       let t : IsTaken s.live.tables s.live.sending s.live.taking it = turn_is_lawful s.live.tables s.live.sending s.live.taking it e in
-      let before : now s.side f.story ≡ log_of s.live.tables s.live.sending s.live.taking false = f.after ∙ ap (log_of s.live.tables s.live.sending s.live.taking) (not_made_yet it e s.kept.closing refl) in
+      let before : now s.side f.story ≡ log_of s.live.tables s.live.sending s.live.taking false = taken_before s book f it e in
       record {
         told = limit_told s book f q token w limits.Trail;
-        behind = record { waits = s.live.sending.inlet; left = left };
+        behind = there;
         mark = taken_mark it;
         lawful = subst (λ (state : LogState). Lawful state (taken_mark it)) (sym before) t.lawful;
         comes = ap first t.front ∙ first-message it.message it.sending.inlet.bytes t.lawful.whole;
         heavy = heavy;
       }
 
-  group_heavy : hear s ≡ Rest → (made : MadeGroup) → group_due s.live.sending.owes s.kept.jobs ≡ Some made → Heavy (Some (marks.Grouped made.frames made.copies)) → AddsTooMuch s.side took all book
+  group_heavy : hear s ≡ Rest → (made : MadeGroup) → group_due s.live.sending.owes s.kept.jobs ≡ Some made → Heavy (Some (marks.Grouped made.frames made.copies)) → AddsTooMuch s.side took inside ways book
   group_heavy q made e heavy =
       let o : Owing s made = owing s book f made e in
       let owes : (now s.side f.story).owes ≡ Some o.owed = ap (λ (state : LogState). state.owes) f.after ∙ o.owes in
       record {
         told = limit_told s book f q token w limits.Trail;
-        behind = record { waits = s.live.sending.inlet; left = left };
+        behind = there;
         mark = marks.Grouped made.frames made.copies;
         lawful = subst (λ (owes : Option Owed). MayMake (now s.side f.story) owes made.frames made.copies) (sym owes) o.is_group;
         comes = subst (λ (owes : Option Owed). IsMade owes made.frames) (sym owes) tt;
         heavy = heavy;
       }
 
-  close_heavy : hear s ≡ Rest → (reason : ℕ) → s.kept.closing ≡ Asked reason → s.live.sending.owes ≡ None → Heavy (Some (marks.Grouped (frames.Close reason ∷ []) [])) → AddsTooMuch s.side took all book
+  close_heavy : hear s ≡ Rest → (reason : ℕ) → s.kept.closing ≡ Asked reason → s.live.sending.owes ≡ None → Heavy (Some (marks.Grouped (frames.Close reason ∷ []) [])) → AddsTooMuch s.side took inside ways book
   close_heavy q reason asked none heavy =
       let word : IsWord reason = subst (λ (c : Closing). ClosingFollows c (is_none s.live.sending.owes) (waits_in s.live.sending)) asked f.closes in
       let is_frame : IsFrame (frames.Close reason) = record { fields = word; fits = omega (arith, length-word_bytes reason) } in
@@ -212,7 +198,7 @@ module _ (hears : Bool) (item : Option PeerIn) (s : Now) (book : Book) (f : Foll
       let still : (now s.side f.story).closed ≡ false = ap (λ (state : LogState). state.closed) f.after ∙ ap has_made_close asked in
       record {
         told = limit_told s book f q token w limits.Trail;
-        behind = record { waits = s.live.sending.inlet; left = left };
+        behind = there;
         mark = marks.Grouped (frames.Close reason ∷ []) [];
         lawful =
             subst (λ (owes : Option Owed). MayMake (now s.side f.story) owes (frames.Close reason ∷ []) []) (sym owes)
@@ -222,10 +208,10 @@ module _ (hears : Bool) (item : Option PeerIn) (s : Now) (book : Book) (f : Foll
       }
 
   -- an event that is due
-  pub heavy_why : (event : Event) → next s ≡ Do event → Heavy (mark_of event s) → AddsTooMuch s.side took all book
+  pub heavy_why : (event : Event) → next s ≡ Do event → Heavy (mark_of event s) → AddsTooMuch s.side took inside ways book
   heavy_why event d heavy = by_phase (due_in s event d)
     where
-      by_phase : DueIn s event → AddsTooMuch s.side took all book
+      by_phase : DueIn s event → AddsTooMuch s.side took inside ways book
       by_phase (InHear h) =
           let nothing : mark_cost (mark_of event s) ≡ 0 = ap (λ (v : Event). mark_cost (mark_of v s)) (frame_due s event h).is in
           absurd (omega (arith, nothing, w, heavy))
@@ -247,13 +233,10 @@ module _ (hears : Bool) (item : Option PeerIn) (s : Now) (book : Book) (f : Foll
 
 -- ---- an item of the peer
 
-module _ (s : Now) (book : Book) (f : Follows s book) (token : s.token ≡ TOKEN) (w : weight book.trail ≤ MOST_WEIGHT) (q : hear s ≡ Rest) (calm : (wants_peer s ≡ true) → waits_in s.live.sending ≡ false) where
-  abbrev all : Inlet
-  all = s.live.sending.inlet
-
+module _ (s : Now) (book : Book) (f : Follows s book) (token : s.token ≡ TOKEN) (w : weight book.trail ≤ MOST_WEIGHT) (q : hear s ≡ Rest) (inside : Inside) (ways : List Way) (same : book.order ≡ ways) (calm : (wants_peer s ≡ true) → stands_in (first inside.inlet.bytes) ≡ false) where
   -- the frame of an item of a pipe is too heavy
   makes_heavy : (pipe : PipeItem) (it : PipeTurn) → pipe_turn s.live.tables s.live.taking pipe ≡ it → MOST_WEIGHT < weight book.trail + mark_cost (mark_pipe pipe it)
-      → MakesTooMuch s.side (Some (inputs.Pipe pipe)) [] book
+      → MakesTooMuch s.side (Some (inputs.Pipe pipe)) [] ways book
   makes_heavy pipe pipes.Barred e heavy = absurd (omega (arith, w, heavy))
   makes_heavy (pieces.Bytes rid bytes) (pipes.Drops tables) e heavy = absurd (omega (arith, w, heavy))
   makes_heavy (pieces.End rid) (pipes.Drops tables) e heavy = absurd (omega (arith, w, heavy))
@@ -264,13 +247,14 @@ module _ (s : Now) (book : Book) (f : Follows s book) (token : s.token ≡ TOKEN
         pipe = pipe;
         brought = refl;
         none = refl;
+        same = same;
         frame = frame;
         tables = tables;
         makes = ap (λ (state : LogState). pipe_turn state.tables state.taking pipe) f.after ∙ e;
         heavy = omega (arith, heavy);
       }
 
-  pub item_heavy : (item : PeerIn) → MOST_WEIGHT < weight book.trail + mark_cost (mark_of (Fed item) s) → MakesTooMuch s.side (Some item) [] book
+  pub item_heavy : (item : PeerIn) → MOST_WEIGHT < weight book.trail + mark_cost (mark_of (Fed item) s) → MakesTooMuch s.side (Some item) [] ways book
   item_heavy (inputs.Bytes bytes) heavy = absurd (omega (arith, w, heavy))
   item_heavy (inputs.Handle handle) heavy = absurd (omega (arith, w, heavy))
   item_heavy (inputs.Note note) heavy = absurd (omega (arith, w, heavy))
@@ -291,20 +275,20 @@ module _ (s : Now) (book : Book) (f : Follows s book) (token : s.token ≡ TOKEN
       by_known true k d = k
       by_known false k d = absurd (never (frame_of_item s.live.tables.pipes it) d)
 
-  pipe_bars : wants_peer s ≡ true → (pipe : PipeItem) (fault : ProxyFault) (it : PipeTurn) → pipe_turn s.live.tables s.live.taking pipe ≡ it → barred_pipe s.live.sending.taken it ≡ Some fault → Why s.side false (Some (inputs.Pipe pipe)) fault [] all book
+  pipe_bars : wants_peer s ≡ true → (pipe : PipeItem) (fault : ProxyFault) (it : PipeTurn) → pipe_turn s.live.tables s.live.taking pipe ≡ it → barred_pipe s.live.sending.taken it ≡ Some fault → Why s.side false (Some (inputs.Pipe pipe)) fault [] inside ways book
   pipe_bars wants pipe fault pipes.Barred e d =
       let is : faults.Peer s.live.sending.taken PipeUnknown ≡ fault = cc in
       let unknown : IsUnknown (log_state s) pipe = unknown_named pipe (item_by_rid s.live.tables.handles s.live.taking.held pipe) e in
-      subst (λ (x : ProxyFault). Why s.side false (Some (inputs.Pipe pipe)) x [] all book) is (record {
+      subst (λ (x : ProxyFault). Why s.side false (Some (inputs.Pipe pipe)) x [] inside ways book) is (record {
         told = peer_told s book f q token w s.live.sending.taken PipeUnknown f.taken;
         index_is = f.taken;
         tracked = order_is_tracked.tracked s.side f.story f.log;
-        at = inr (record { pipe = pipe; brought = refl; cause_is = refl; none = refl; still = calm wants; unknown = subst (λ (state : LogState). IsUnknown state pipe) (sym f.after) unknown });
+        at = inr (record { pipe = pipe; brought = refl; cause_is = refl; none = refl; same = same; still = calm wants; unknown = subst (λ (state : LogState). IsUnknown state pipe) (sym f.after) unknown });
       })
   pipe_bars wants pipe fault (pipes.Drops tables) e d = absurd cc
   pipe_bars wants pipe fault (pipes.Makes frame tables) e d = absurd cc
 
-  pub item_bars : wants_peer s ≡ true → (item : PeerIn) (fault : ProxyFault) → barred (Fed item) s ≡ Some fault → Why s.side false (Some item) fault [] all book
+  pub item_bars : wants_peer s ≡ true → (item : PeerIn) (fault : ProxyFault) → barred (Fed item) s ≡ Some fault → Why s.side false (Some item) fault [] inside ways book
   item_bars wants (inputs.Bytes bytes) fault d = absurd cc
   item_bars wants (inputs.Handle handle) fault d = absurd cc
   item_bars wants (inputs.Note note) fault d = absurd cc

@@ -1,8 +1,7 @@
 -- That no run ends with a wrong fault.
-use Rattle.std.proofs.Common.{◌≡◌, ℕ, zero, suc, ◌-◌, ◌<◌, ◌≤◌, List, [], ◌∷◌, ◌++◌, map, length, Bool, true, false, is_none, ◌&&◌, Option, Some, None, Ok, Err, Result, refl, sym, ap, subst, ◌∙◌, arith, inl, inr, ◌⊎◌}
+use Rattle.std.proofs.Common.{◌≡◌, ℕ, zero, suc, ◌-◌, List, [], ◌∷◌, ◌++◌, map, Bool, true, false, is_none, ◌&&◌, Option, Some, None, Ok, Err, refl, sym, ap, subst, ◌∙◌, arith, inl, inr, ◌⊎◌}
 use Rattle.std.specs.List.{AllByRecursion}
 use Rattle.wp_outside.specs.declared.kinds.Side.{Side}
-use Rattle.wp_outside.specs.declared.kinds.Side.TheVariants.{Near, Far}
 use Rattle.wp_outside.specs.declared.pipe_items.PipeItem.{PipeItem}
 use Rattle.wl_wire.specs.Wire.{first, joined}
 use Rattle.transfer_frames.specs.declared.cause.FrameCause.{FrameCause}
@@ -10,22 +9,23 @@ use Rattle.half_model.specs.declared.causes.PeerCause.{PeerCause}
 use Rattle.half_model.specs.declared.causes.PeerCause.TheVariants as causes
 use Rattle.half_model.specs.declared.items.PeerIn.{PeerIn}
 use Rattle.half_model.specs.declared.items.PeerIn.TheVariants as items
-use Rattle.half_model.specs.Inlet.{Inlet, no_inlet}
+use Rattle.half_model.specs.Inlet.{Inlet}
+use Rattle.wl_objects.specs.Entries.{Tracked}
 use Rattle.half_model.specs.Log.{Mark}
 use Rattle.script_lang.specs.declared.steps.Step.{Step}
 use Rattle.side_model.specs.declared.fault.ProxyFault.{ProxyFault}
-use Rattle.side_model.specs.declared.fault.ProxyFault.TheVariants.{Frame, Peer, Limit}
+use Rattle.side_model.specs.declared.fault.ProxyFault.TheVariants.{Frame, Peer}
 use Rattle.side_model.specs.Books.{Book, TrailRecord}
 use Rattle.pair_runs.specs.Causes.{MessageHas}
 use Rattle.pair_runs.specs.Faults.{PeerCaused, MessageCaused, ItemCaused}
 use Rattle.pair_runs.specs.Loading.{LoadsAllIn}
-use Rattle.pair_runs.specs.Moves.{Move, Take, LoadAll, Close, Connect, Moves, at_side, ClosedBy, ConnectedBy}
+use Rattle.pair_runs.specs.Moves.{at_side, ClosedBy, ConnectedBy}
 use Rattle.pair_runs.specs.Putting.{items_put, spread_item, spread, inlet_of, TakenOf}
-use Rattle.pair_runs.specs.Runs.{Played, Fails, Runs}
+use Rattle.pair_runs.specs.Runs.{Played}
 use Rattle.pair_runs.specs.Sides.{SideState, fed, asked}
 use Rattle.pair_runs.specs.States.{State, Fault, side_at, connections}
 use Rattle.pair_runs.specs.Taking.{Taker, cut_item, TakesIn}
-use Rattle.pair_runs.specs.Whys.{RefusesLine, Why}
+use Rattle.pair_runs.specs.Whys.{tracked_by, RefusesLine, Why}
 use Rattle.pair_runs.specs.Working.{WorksInPart}
 use Rattle.pair_runs.specs.WrongFaults.{Ends, BlamesNothing, BlamesOther, IsNoPipe, BlamesPipe, LimitsFew, LimitsNone, RefusesUnheard, BlamesLink}
 use Rattle.pair_runs.proofs.Blaming.{faults_are_caused}
@@ -52,17 +52,17 @@ no_cause side story waits causes.HandleKind e h = let never : Ok None ≡ Ok (So
 no_cause side story waits causes.NoteMissing e h = let never : Ok None ≡ Ok (Some h.it.message) = sym e ∙ h.it.front in cc
 no_cause side story waits causes.PipeUnknown e h = h
 
-nothing_in : (taken : List (List ℕ)) (waits : Inlet) (others : List PeerIn) → TakenOf [] taken waits others → waits.bytes ≡ []
-nothing_in taken waits others h =
+nothing_in : (side : Side) (book : Book) (waits : Inlet) (objects : Tracked) (others : List PeerIn) → TakenOf side [] book waits objects others → waits.bytes ≡ []
+nothing_in side book waits objects others h =
     let none : h.ins ≡ [] = none_front h.ins others h.split in
-    let bytes : joined taken ++ waits.bytes ≡ [] = sym h.left.bytes ∙ ap (λ (ins : List PeerIn). (inlet_of ins).bytes) none in
-    none_back (joined taken) waits.bytes bytes
+    let bytes : joined book.trail.taken ++ waits.bytes ≡ [] = sym h.left.bytes ∙ ap (λ (ins : List PeerIn). (inlet_of ins).bytes) none in
+    none_back (joined book.trail.taken) waits.bytes bytes
 
 blamed_none : (side : Side) (book : Book) (index : ℕ) (cause : PeerCause) → PeerCaused side [] book index cause → ⊥
 blamed_none side book index cause h = by_place h.at
   where
     by_place : MessageCaused side [] book index cause h.told ⊎ ItemCaused side [] book index cause h.told → ⊥
-    by_place (inl m) = no_cause side h.told.story m.behind.waits cause (nothing_waits m.behind.waits (nothing_in book.trail.taken m.behind.waits m.behind.others m.behind.taken_of)) m.has
+    by_place (inl m) = no_cause side h.told.story m.behind.waits cause (nothing_waits m.behind.waits (nothing_in side book m.behind.waits (tracked_by side h.told.story) m.behind.others m.behind.taken_of)) m.has
     by_place (inr i) = let none : items.Pipe i.next.pipe ∷ i.next.others ≡ [] = none_back i.next.taken_of.ins (items.Pipe i.next.pipe ∷ i.next.others) i.next.taken_of.split in cc
 
 blamed : (side : Side) (index : ℕ) (cause : PeerCause) (steps : List Step) (played : List Played) (last : State) → Ends side (Peer index cause) steps played last → PeerCaused side (items_put side played) (side_at side last).book index cause
@@ -138,7 +138,7 @@ met side whose fault (Some other) e = sym (ap fault_in e)
 module _ (connection place : ℕ) (cause : FrameCause) where
   unheard : (item : Option PeerIn) (fault : ProxyFault) (a b : SideState) → WorksInPart false item fault a b → fault ≡ Frame connection place cause → ⊥
   unheard item fault a b p e =
-      let why : Why b.book.trail.side false item (Frame connection place cause) p.part.took a.inside.inlet b.book = subst (λ (x : ProxyFault). Why b.book.trail.side false item x p.part.took a.inside.inlet b.book) e p.why in
+      let why : Why b.book.trail.side false item (Frame connection place cause) p.part.took a.inside a.book.order b.book = subst (λ (x : ProxyFault). Why b.book.trail.side false item x p.part.took a.inside a.book.order b.book) e p.why in
       let never : false ≡ true = why in
       cc
 
@@ -186,4 +186,6 @@ blames_link = record { connects = λ side index cause s t m. go side index cause
   where
     go : (side : Side) (index : ℕ) (cause : PeerCause) (s t : State) (b : Bool) → ConnectedBy b s t (Some (record { side = side; fault = Peer index cause })) → ⊥
     go side index cause s t true c = no_line (suc (connections s)) index cause (side_at side s).book.trail c.0
-    go side index cause s t false c = let never : Some (record { side = side; fault = Peer index cause }) ≡ None = c.1 in cc
+    go side index cause s t false c =
+        let failed : Option Fault = Some (record { side = side; fault = Peer index cause }) in
+        absurd (let never : failed ≡ None = c.1 in cc)

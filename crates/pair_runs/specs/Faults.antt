@@ -4,7 +4,7 @@ use Rattle.std.specs.Prelude.{◌≡◌, ℕ, ◌+◌, ◌<◌, ◌≤◌, List,
 use Rattle.wp_outside.specs.declared.kinds.Side.{Side}
 use Rattle.wp_outside.specs.declared.pipe_items.PipeItem.{PipeItem}
 use Rattle.wl_wire.specs.Wire.{cut}
-use Rattle.wl_objects.specs.Entries.{first_objects}
+use Rattle.wl_objects.specs.Entries.{Tracked, first_objects}
 use Rattle.wl_objects.specs.Tracking.{track}
 use Rattle.transfer_frames.specs.declared.frame.Frame.{Frame}
 use Rattle.transfer_frames.specs.Grammar.{spelling}
@@ -30,33 +30,36 @@ use Rattle.pair_runs.specs.Causes.{MessageHas, IsUnknown, TellsAbove}
 use Rattle.pair_runs.specs.Putting.{items_put, TakenOf}
 use Rattle.pair_runs.specs.Runs.{Played, Fails, Runs, bytes_in}
 use Rattle.pair_runs.specs.States.{State, Fault, side_at, connections}
-use Rattle.pair_runs.specs.Whys.{Told, ComesNext, RefusesFront}
+use Rattle.pair_runs.specs.Whys.{Told, tracked_by, ComesNext, RefusesFront}
 
--- what waits behind all messages that these records say were taken, of what the peer put
-pub record Waiting (put : List PeerIn) (book : Book) : Type 0 where
+-- what waits behind all messages that these records say were taken, of what the peer put, where a
+-- story has come to
+pub record Waiting (side : Side) (put : List PeerIn) (book : Book) (story : List Mark)
+    : Type 0 where
   pub waits : Inlet
   pub others : List PeerIn
-  pub taken_of : TakenOf put book.trail.taken waits others
+  pub taken_of : TakenOf side put book waits (tracked_by side story) others
 
--- what waits so where an item for a pipe is the next one to come
-pub record ItemNext (put : List PeerIn) (book : Book) : Type 0 where
+-- the same where an item for a pipe is the next one to come
+pub record ItemNext (side : Side) (put : List PeerIn) (book : Book) : Type 0 where
   pub pipe : PipeItem
   pub waits : Inlet
+  pub objects : Tracked
   pub others : List PeerIn
-  pub taken_of : TakenOf put book.trail.taken waits (inputs.Pipe pipe ∷ others)
+  pub taken_of : TakenOf side put book waits objects (inputs.Pipe pipe ∷ others)
 
 -- ---- a fault of the peer
 
 -- the message behind those that were taken has the cause
 pub record MessageCaused (side : Side) (put : List PeerIn) (book : Book) (index : ℕ)
     (cause : PeerCause) (told : Told side (faults.Peer index cause) book) : Type 0 where
-  pub behind : Waiting put book
+  pub behind : Waiting side put book told.story
   pub has : MessageHas side told.story behind.waits cause
 
 -- or an item has it that was put behind just so many messages
 pub record ItemCaused (side : Side) (put : List PeerIn) (book : Book) (index : ℕ)
     (cause : PeerCause) (told : Told side (faults.Peer index cause) book) : Type 0 where
-  pub next : ItemNext put book
+  pub next : ItemNext side put book
   pub just : cut (bytes_in next.taken_of.ins) ≡ book.trail.taken
   pub cause_is : cause ≡ PipeUnknown
   pub unknown : IsUnknown (now side told.story) next.pipe
@@ -68,7 +71,7 @@ pub record PeerCaused (side : Side) (put : List PeerIn) (book : Book) (index : �
   pub told : Told side (faults.Peer index cause) book
   pub index_is : index ≡ length book.trail.taken
   pub tracked : track first_objects (order_in side told.story)
-      ≡ Ok (now side told.story).tables.objects.tracked
+      ≡ Ok (tracked_by side told.story)
   pub at : MessageCaused side put book index cause told ⊎ ItemCaused side put book index cause told
 
 -- ---- a limit
@@ -76,13 +79,13 @@ pub record PeerCaused (side : Side) (put : List PeerIn) (book : Book) (index : �
 -- the message behind those that were taken tells a size above its limit
 pub record SizeCaused (which : Limit) (side : Side) (put : List PeerIn) (book : Book) : Type 0 where
   pub told : Told side (faults.Limit which) book
-  pub behind : Waiting put book
+  pub behind : Waiting side put book told.story
   pub above : TellsAbove which side (now side told.story) behind.waits
 
 -- what would be recorded next is too heavy: a message, or frames
 pub record MarkCaused (side : Side) (put : List PeerIn) (book : Book) : Type 0 where
   pub told : Told side (faults.Limit limits.Trail) book
-  pub behind : Waiting put book
+  pub behind : Waiting side put book told.story
   pub mark : Mark
   pub lawful : Lawful (now side told.story) mark
   pub comes : ComesNext (now side told.story) behind.waits mark
@@ -91,7 +94,7 @@ pub record MarkCaused (side : Side) (put : List PeerIn) (book : Book) : Type 0 w
 -- or the frame of an item that was put next
 pub record MadeCaused (side : Side) (put : List PeerIn) (book : Book) : Type 0 where
   pub told : Told side (faults.Limit limits.Trail) book
-  pub next : ItemNext put book
+  pub next : ItemNext side put book
   pub frame : Frame
   pub tables : Tables
   pub makes : pipe_turn (now side told.story).tables (now side told.story).taking next.pipe

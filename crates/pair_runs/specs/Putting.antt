@@ -1,14 +1,16 @@
 -- What the peers of a run put on their wires by its lines, and what waits of it in a side that took
 -- some messages; messages are Wayland's, the items beside them are this project's own.
-use Rattle.std.specs.Prelude.{◌≡◌, ℕ, List, [], ◌∷◌, ◌++◌, map, flat_map}
+use Rattle.std.specs.Prelude.{◌≡◌, List, [], ◌∷◌, ◌++◌, map, flat_map}
 use Rattle.std.specs.List.{AllByRecursion}
 use Rattle.wp_outside.specs.declared.kinds.Side.{Side}
 use Rattle.wp_outside.specs.declared.kinds.Side.TheVariants.{Near, Far}
 use Rattle.wl_wire.specs.Wire.{IsMessage}
+use Rattle.wl_objects.specs.Entries.{Tracked, first_objects}
 use Rattle.half_model.specs.declared.items.PeerIn.{PeerIn}
 use Rattle.half_model.specs.declared.items.PeerIn.TheVariants as items
 use Rattle.half_model.specs.Inlet.{Inlet, no_inlet, with_item}
-use Rattle.pair_runs.specs.Leaving.{Leaves}
+use Rattle.side_model.specs.Books.{Book}
+use Rattle.pair_runs.specs.Leaving.{Leaves, Passes}
 use Rattle.pair_runs.specs.Moves.{Move, Put}
 use Rattle.pair_runs.specs.Runs.{Played, moves_of}
 
@@ -54,10 +56,13 @@ abbrev pub inlet_of : List PeerIn → Inlet
 inlet_of put = with_items put no_inlet
 
 -- Of all that a peer put, byte by byte, the first items are in, and the others are still to come.
--- These messages were taken of what is in, and this waits.
-pub record TakenOf (put : List PeerIn) (taken : List (List ℕ)) (waits : Inlet)
-    (others : List PeerIn) : Type 0 where
+-- The messages were taken of what is in that these records have, in an order of passing that they
+-- tell, behind which these objects are tracked; and this waits.
+pub record TakenOf (side : Side) (put : List PeerIn) (book : Book) (waits : Inlet)
+    (objects : Tracked) (others : List PeerIn) : Type 0 where
+  pub side_is : book.trail.side ≡ side
   pub ins : List PeerIn
   pub split : ins ++ others ≡ spread put
-  pub whole : AllByRecursion IsMessage taken
-  pub left : Leaves taken (inlet_of ins) waits
+  pub whole : AllByRecursion IsMessage book.trail.taken
+  pub left : Leaves book.trail.taken (inlet_of ins) waits
+  pub passes : Passes side left.uses first_objects objects [] book.order

@@ -3,6 +3,7 @@
 use Rattle.std.specs.Prelude.{ℕ, ◌-◌, ◌&&◌, not, if◌then◌else◌, Bool, true, false, List, []}
 use Rattle.std.specs.Prelude.{◌∷◌, drop, map, sum, sum_by, Option, Some, None}
 use Rattle.wp_outside.specs.declared.kinds.Side.{Side}
+use Rattle.wl_objects.specs.Entries.{Tracked, first_objects}
 use Rattle.transfer_frames.specs.Grammar.{spelling}
 use Rattle.half_model.specs.declared.items.PeerIn.{PeerIn}
 use Rattle.half_model.specs.Group.{Owed}
@@ -22,9 +23,11 @@ unfoldable pub TOKEN : List ℕ
 TOKEN =
     119 ∷ 97 ∷ 121 ∷ 112 ∷ 105 ∷ 112 ∷ 101 ∷ 45 ∷ 115 ∷ 101 ∷ 115 ∷ 115 ∷ 105 ∷ 111 ∷ 110 ∷ 33 ∷ []
 
--- what a side took from its wire and no taken message used, and whether it was asked to close
+-- what a side took from its wire and no taken message used, the objects that it tracks, and whether
+-- it was asked to close
 pub record Inside : Type 0 where
   pub inlet : Inlet
+  pub objects : Tracked
   pub asked : Bool
 
 pub record SideState : Type 0 where
@@ -37,7 +40,7 @@ pub record SideState : Type 0 where
 
 -- at first
 abbrev pub no_inside : Inside
-no_inside = record { inlet = no_inlet; asked = false }
+no_inside = record { inlet = no_inlet; objects = first_objects; asked = false }
 
 abbrev pub first_side : Side → SideState
 first_side side = record { book = no_book side; inside = no_inside; copies = []; loaded = 0 }
@@ -126,6 +129,7 @@ words_in job = job.part.count
 abbrev pub inside_of : Now → Inside
 inside_of s = record {
   inlet = s.live.sending.inlet;
+  objects = s.live.tables.objects.tracked;
   asked = not (is_open s.kept.closing);
 }
 

@@ -5,7 +5,8 @@ use Rattle.std.specs.Prelude.{◌∷◌, ◌++◌, length, Option, Some, None, O
 use Rattle.wp_outside.specs.declared.kinds.Side.{Side}
 use Rattle.wp_outside.specs.declared.pipe_items.PipeItem.{PipeItem}
 use Rattle.wl_wire.specs.Wire.{first}
-use Rattle.wl_objects.specs.Entries.{first_objects}
+use Rattle.wl_tables.specs.declared.way.Way.{Way}
+use Rattle.wl_objects.specs.Entries.{Tracked, first_objects}
 use Rattle.wl_objects.specs.Tracking.{track}
 use Rattle.transfer_frames.specs.declared.frame.Frame.{Frame}
 use Rattle.transfer_frames.specs.declared.frame.Frame.TheVariants as frames
@@ -33,54 +34,61 @@ use Rattle.side_model.specs.Books.{Book, TrailRecord, weight, mark_cost, MOST_WE
 use Rattle.side_model.specs.Calls.{MOST_CONNECTIONS}
 use Rattle.side_model.specs.Records.{Law}
 use Rattle.pair_runs.specs.Causes.{MessageHas, IsUnknown, TellsAbove}
-use Rattle.pair_runs.specs.Leaving.{Leaves}
-use Rattle.pair_runs.specs.Sides.{TOKEN}
+use Rattle.pair_runs.specs.Leaving.{Leaves, Passes}
+use Rattle.pair_runs.specs.Sides.{Inside, TOKEN}
 
 -- The records of a side that has met a fault are lawful: they tell a story.
 abbrev pub Told : Side → ProxyFault → Book → Type 0
 Told side fault book = Law side TOKEN book (Some fault)
 
--- what waits behind these messages, of all that waited
-pub record Waits (took : List (List ℕ)) (all : Inlet) : Type 0 where
+-- what waits behind these messages that a side took, once it tracks these objects
+pub record Waits (side : Side) (took : List (List ℕ)) (inside : Inside) (ways : List Way) (book : Book)
+    (objects : Tracked) : Type 0 where
   pub waits : Inlet
-  pub left : Leaves took all waits
+  pub left : Leaves took inside.inlet waits
+  pub passes : Passes side left.uses inside.objects objects ways book.order
+
+-- the objects that a side tracks where a story has come to
+abbrev pub tracked_by : Side → List Mark → Tracked
+tracked_by side story = (now side story).tables.objects.tracked
 
 -- ---- a fault of the peer
 
 -- the message behind those that were taken has the cause
 pub record AtMessage (side : Side) (story : List Mark) (cause : PeerCause) (took : List (List ℕ))
-    (all : Inlet) : Type 0 where
-  pub behind : Waits took all
+    (inside : Inside) (ways : List Way) (book : Book) : Type 0 where
+  pub behind : Waits side took inside ways book (tracked_by side story)
   pub has : MessageHas side story behind.waits cause
 
 -- or the item that the call brought has it, before which no more was taken, nor is there more that
 -- might be
 pub record AtItem (side : Side) (story : List Mark) (cause : PeerCause) (took : List (List ℕ))
-    (all : Inlet) (item : Option PeerIn) : Type 0 where
+    (inside : Inside) (ways : List Way) (book : Book) (item : Option PeerIn) : Type 0 where
   pub pipe : PipeItem
   pub brought : item ≡ Some (inputs.Pipe pipe)
   pub cause_is : cause ≡ PipeUnknown
   pub none : took ≡ []
-  pub still : stands_in (first all.bytes) ≡ false
+  pub same : book.order ≡ ways
+  pub still : stands_in (first inside.inlet.bytes) ≡ false
   pub unknown : IsUnknown (now side story) pipe
 
 -- The cause stands at the index: the whole order of passing is tracked, as many of the peer's
 -- messages were taken as the index says, and the next one, or the item, has the cause.
 pub record Stands (side : Side) (item : Option PeerIn) (index : ℕ) (cause : PeerCause)
-    (took : List (List ℕ)) (all : Inlet) (book : Book) : Type 0 where
+    (took : List (List ℕ)) (inside : Inside) (ways : List Way) (book : Book) : Type 0 where
   pub told : Told side (faults.Peer index cause) book
   pub index_is : index ≡ length book.trail.taken
   pub tracked : track first_objects (order_in side told.story)
-      ≡ Ok (now side told.story).tables.objects.tracked
-  pub at : AtMessage side told.story cause took all ⊎ AtItem side told.story cause took all item
+      ≡ Ok (tracked_by side told.story)
+  pub at : AtMessage side told.story cause took inside ways book ⊎ AtItem side told.story cause took inside ways book item
 
 -- ---- a limit
 
 -- the message behind those that were taken tells a size above its limit
-pub record TellsTooMuch (which : Limit) (side : Side) (took : List (List ℕ)) (all : Inlet)
+pub record TellsTooMuch (which : Limit) (side : Side) (took : List (List ℕ)) (inside : Inside) (ways : List Way)
     (book : Book) : Type 0 where
   pub told : Told side (faults.Limit which) book
-  pub behind : Waits took all
+  pub behind : Waits side took inside ways book (tracked_by side told.story)
   pub above : TellsAbove which side (now side told.story) behind.waits
 
 -- a frame that is made where no message is owed is CLOSE
@@ -100,46 +108,49 @@ ComesNext state waits (marks.Grouped made copies) = IsMade state.owes made
 ComesNext state waits mark = ⊥
 
 -- what would be recorded next is too heavy
-pub record AddsTooMuch (side : Side) (took : List (List ℕ)) (all : Inlet) (book : Book)
+pub record AddsTooMuch (side : Side) (took : List (List ℕ)) (inside : Inside) (ways : List Way) (book : Book)
     : Type 0 where
   pub told : Told side (faults.Limit limits.Trail) book
-  pub behind : Waits took all
+  pub behind : Waits side took inside ways book (tracked_by side told.story)
   pub mark : Mark
   pub lawful : Lawful (now side told.story) mark
   pub comes : ComesNext (now side told.story) behind.waits mark
   pub heavy : MOST_WEIGHT < weight book.trail + mark_cost (Some mark)
 
 -- or the frame of the item that the call brought is
-pub record MakesTooMuch (side : Side) (item : Option PeerIn) (took : List (List ℕ)) (book : Book)
-    : Type 0 where
+pub record MakesTooMuch (side : Side) (item : Option PeerIn) (took : List (List ℕ))
+    (ways : List Way) (book : Book) : Type 0 where
   pub told : Told side (faults.Limit limits.Trail) book
   pub pipe : PipeItem
   pub brought : item ≡ Some (inputs.Pipe pipe)
   pub none : took ≡ []
+  pub same : book.order ≡ ways
   pub frame : Frame
   pub tables : Tables
   pub makes : pipe_turn (now side told.story).tables (now side told.story).taking pipe
       ≡ Makes frame tables
   pub heavy : MOST_WEIGHT < weight book.trail + length (spelling frame)
 
-abbrev pub PassesLimit : Limit → Side → Option PeerIn → List (List ℕ) → Inlet → Book → Type 0
-PassesLimit limits.File side item took all book = TellsTooMuch limits.File side took all book
-PassesLimit limits.Files side item took all book = TellsTooMuch limits.Files side took all book
-PassesLimit limits.Trail side item took all book =
-    AddsTooMuch side took all book ⊎ MakesTooMuch side item took book
-PassesLimit which side item took all book = ⊥
+abbrev pub PassesLimit : Limit → Side → Option PeerIn → List (List ℕ) → Inside → List Way → Book
+    → Type 0
+PassesLimit limits.File side item took inside ways book = TellsTooMuch limits.File side took inside ways book
+PassesLimit limits.Files side item took inside ways book = TellsTooMuch limits.Files side took inside ways book
+PassesLimit limits.Trail side item took inside ways book =
+    AddsTooMuch side took inside ways book ⊎ MakesTooMuch side item took ways book
+PassesLimit which side item took inside ways book = ⊥
 
 -- ---- any fault
 
--- Why a call of a side meets a fault, where it took these messages of all that waited and leaves
--- these records. Only a call that may hear frames refuses one; for which cause, the law of the
+-- Why a call of a side meets a fault, where it took these messages of what waited and leaves these
+-- records. Only a call that may hear frames refuses one; for which cause, the law of the
 -- records says. Memory may run out anywhere.
-abbrev pub Why : Side → Bool → Option PeerIn → ProxyFault → List (List ℕ) → Inlet → Book → Type 0
-Why side hears item (faults.Frame connection place cause) took all book = hears ≡ true
-Why side hears item (faults.Peer index cause) took all book =
-    Stands side item index cause took all book
-Why side hears item (faults.Limit which) took all book = PassesLimit which side item took all book
-Why side hears item faults.Memory took all book = Unit {0}
+abbrev pub Why : Side → Bool → Option PeerIn → ProxyFault → List (List ℕ) → Inside → List Way
+    → Book → Type 0
+Why side hears item (faults.Frame connection place cause) took inside ways book = hears ≡ true
+Why side hears item (faults.Peer index cause) took inside ways book =
+    Stands side item index cause took inside ways book
+Why side hears item (faults.Limit which) took inside ways book = PassesLimit which side item took inside ways book
+Why side hears item faults.Memory took inside ways book = Unit {0}
 
 -- ---- what is refused at once
 

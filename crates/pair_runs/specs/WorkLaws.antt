@@ -36,12 +36,14 @@ pub record RunsOn (t : TrailState) : Type 0 where
 -- an item of its peer
 abbrev pub FedWorks : Type 0
 FedWorks = (half : ℕ) (item : PeerIn) (old new : TrailState) → RunsOn old
+    → Admits (Fed item) old.now
     → TrailCalls (Fed item) (Ok tt) old new
     → Works false (fed item (side_seen half old)) (side_seen half new)
 
 -- a piece of what comes on the connection that is up
 abbrev pub CameWorks : Type 0
 CameWorks = (half : ℕ) (piece : List ℕ) (here : Here) (old new : TrailState) → RunsOn old
+    → Admits (Came piece) old.now
     → old.now.live.here ≡ Some here
     → TrailCalls (Came piece) (Ok tt) old new
     → Works true (read piece (side_seen half old)) (side_seen half new)
@@ -49,6 +51,7 @@ CameWorks = (half : ℕ) (piece : List ℕ) (here : Here) (old new : TrailState)
 -- the wish to close
 abbrev pub AsksWorks : Type 0
 AsksWorks = (half reason : ℕ) (old new : TrailState) → RunsOn old
+    → Admits (Asks reason) old.now
     → TrailCalls (Asks reason) (Ok tt) old new
     → Works false (asked (side_seen half old)) (side_seen half new)
 
@@ -97,6 +100,7 @@ HandedIs = (half : ℕ) (done : Done) (old new : TrailState) → RunsOn old
 -- or it is the last one.
 abbrev pub HandedWorks : Type 0
 HandedWorks = (half : ℕ) (done : Done) (old new : TrailState) → RunsOn old
+    → Admits (Handed done) old.now
     → all_back (handed done old.now.kept.jobs) ≡ true
     → TrailCalls (Handed done) (Ok tt) old new
     → Works false (all_loaded (side_seen half old)) (side_seen half new)

@@ -5,17 +5,17 @@ use Rattle.wp_outside.specs.declared.kinds.Side.{Side}
 use Rattle.transfer_frames.specs.declared.cause.FrameCause.{FrameCause}
 use Rattle.half_model.specs.declared.causes.Limit.TheVariants.{Connections, Input, Lines}
 use Rattle.half_model.specs.declared.causes.PeerCause.{PeerCause}
-use Rattle.half_model.specs.declared.causes.PeerCause.TheVariants.{HandleMissing, PipeUnknown}
+use Rattle.half_model.specs.declared.causes.PeerCause.TheVariants.{PipeUnknown}
 use Rattle.half_model.specs.declared.items.PeerIn.{PeerIn}
 use Rattle.half_model.specs.declared.items.PeerIn.TheVariants as items
 use Rattle.script_lang.specs.declared.steps.Step.{Step}
 use Rattle.side_model.specs.declared.fault.ProxyFault.{ProxyFault}
 use Rattle.side_model.specs.declared.fault.ProxyFault.TheVariants.{Frame, Peer, Limit}
 use Rattle.side_model.specs.Calls.{MOST_CONNECTIONS}
-use Rattle.pair_runs.specs.Moves.{Take, Load, LoadAll, Connect, Push, Close, Move, Moves}
+use Rattle.pair_runs.specs.Moves.{Take, LoadAll, Connect, Close, Moves}
 use Rattle.pair_runs.specs.Putting.{items_put}
-use Rattle.pair_runs.specs.Runs.{Played, End, Fails, Runs}
-use Rattle.pair_runs.specs.States.{State, Fault, side_at, connections}
+use Rattle.pair_runs.specs.Runs.{Played, Fails, Runs}
+use Rattle.pair_runs.specs.States.{State, side_at, connections}
 
 -- a run that ends with this fault of this side
 pub record Ends (side : Side) (fault : ProxyFault) (steps : List Step) (played : List Played)
