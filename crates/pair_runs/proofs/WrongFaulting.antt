@@ -1,15 +1,21 @@
 -- That no run ends with a wrong fault.
-use Rattle.std.proofs.Common.{◌≡◌, ℕ, zero, suc, ◌-◌, List, [], ◌∷◌, ◌++◌, map, Bool, true, false, is_none, ◌&&◌, Option, Some, None, Ok, Err, refl, sym, ap, subst, ◌∙◌, arith, inl, inr, ◌⊎◌}
+use Rattle.std.proofs.Common.{◌≡◌, ℕ, zero, suc, ◌-◌, ◌<◌, nat_lt, List, [], ◌∷◌, ◌++◌, map, length, Bool, true, false, if◌then◌else◌, is_none, ◌&&◌, Option, Some, None, Ok, Err, refl, sym, ap, subst, ◌∙◌, append_assoc, arith, inl, inr, ◌⊎◌}
+use Rattle.std.proofs.lemmas.Bool.{ltb-false}
+use Rattle.std.proofs.lemmas.List.{append-nil}
 use Rattle.std.specs.List.{AllByRecursion}
 use Rattle.wp_outside.specs.declared.kinds.Side.{Side}
 use Rattle.wp_outside.specs.declared.pipe_items.PipeItem.{PipeItem}
 use Rattle.wl_wire.specs.Wire.{first, joined}
+use Rattle.wl_wire.proofs.CuttingLaws.{first-gives}
+use Rattle.wp_outside.specs.declared.kinds.HandleKind.{HandleKind}
+use Rattle.handle_table.specs.declared.handles.Handle.{Handle}
+use Rattle.pair_runs.specs.Leaving.{Use, after_uses}
 use Rattle.transfer_frames.specs.declared.cause.FrameCause.{FrameCause}
 use Rattle.half_model.specs.declared.causes.PeerCause.{PeerCause}
 use Rattle.half_model.specs.declared.causes.PeerCause.TheVariants as causes
 use Rattle.half_model.specs.declared.items.PeerIn.{PeerIn}
 use Rattle.half_model.specs.declared.items.PeerIn.TheVariants as items
-use Rattle.half_model.specs.Inlet.{Inlet}
+use Rattle.half_model.specs.Inlet.{Inlet, no_inlet, with_item, end_of, ready, handle_for}
 use Rattle.wl_objects.specs.Entries.{Tracked}
 use Rattle.half_model.specs.Log.{Mark}
 use Rattle.script_lang.specs.declared.steps.Step.{Step}
@@ -20,14 +26,14 @@ use Rattle.pair_runs.specs.Causes.{MessageHas}
 use Rattle.pair_runs.specs.Faults.{PeerCaused, MessageCaused, ItemCaused}
 use Rattle.pair_runs.specs.Loading.{LoadsAllIn}
 use Rattle.pair_runs.specs.Moves.{at_side, ClosedBy, ConnectedBy}
-use Rattle.pair_runs.specs.Putting.{items_put, spread_item, spread, inlet_of, TakenOf}
+use Rattle.pair_runs.specs.Putting.{items_put, with_items, spread_item, spread, inlet_of, TakenOf}
 use Rattle.pair_runs.specs.Runs.{Played}
 use Rattle.pair_runs.specs.Sides.{SideState, fed, asked}
 use Rattle.pair_runs.specs.States.{State, Fault, side_at, connections}
 use Rattle.pair_runs.specs.Taking.{Taker, cut_item, TakesIn}
 use Rattle.pair_runs.specs.Whys.{tracked_by, RefusesLine, Why}
 use Rattle.pair_runs.specs.Working.{WorksInPart}
-use Rattle.pair_runs.specs.WrongFaults.{Ends, BlamesNothing, BlamesOther, IsNoPipe, BlamesPipe, LimitsFew, LimitsNone, RefusesUnheard, BlamesLink}
+use Rattle.pair_runs.specs.WrongFaults.{Ends, BlamesNothing, BlamesOther, MissesHandle, IsNoPipe, BlamesPipe, LimitsFew, LimitsNone, RefusesUnheard, BlamesLink}
 use Rattle.pair_runs.proofs.Blaming.{faults_are_caused}
 
 -- ---- nothing was put
@@ -74,6 +80,68 @@ blames_nothing side index cause steps played last e none =
 
 pub blames_other : BlamesOther
 blames_other side index cause steps played last e other = other (blamed side index cause steps played last e).index_is
+
+-- ---- a handle
+
+-- what waits of handles stays in front
+handles_stay : (put : List PeerIn) (inlet : Inlet) → (more : List (ℕ × Handle)) × ((with_items put inlet).handles ≡ inlet.handles ++ more)
+handles_stay [] inlet = ([], sym (append-nil inlet.handles))
+handles_stay (items.Bytes bytes ∷ put) inlet = handles_stay put (with_item (items.Bytes bytes) inlet)
+handles_stay (items.Handle handle ∷ put) inlet =
+    let rest = handles_stay put (with_item (items.Handle handle) inlet) in
+    ((inlet.fed, handle) ∷ rest.0, rest.1 ∙ append_assoc inlet.handles ((inlet.fed, handle) ∷ []) rest.0)
+handles_stay (items.Note note ∷ put) inlet = handles_stay put (with_item (items.Note note) inlet)
+handles_stay (items.Pipe item ∷ put) inlet = handles_stay put inlet
+
+-- the first handle is ready for a message
+first_ready : (kind : HandleKind) (message : List ℕ) (handle : Handle) (inlet : Inlet) (rest : List (ℕ × Handle)) → inlet.handles ≡ (0, handle) ∷ rest → 0 < length message → handle_for (Some kind) message inlet ≡ Some handle
+first_ready kind message handle inlet rest e some =
+    ap (ready (end_of message inlet)) e ∙ go (nat_lt 0 (end_of message inlet)) refl
+  where
+    go : (b : Bool) → nat_lt 0 (end_of message inlet) ≡ b → (if b then Some handle else None) ≡ Some handle
+    go true k = refl
+    go false k = absurd (omega (arith, some, ltb-false 0 (end_of message inlet) k))
+
+some_message : (bytes message : List ℕ) → first bytes ≡ Ok (Some message) → 0 < length message
+some_message bytes message e = omega (arith, ((first-gives bytes message).0 e).0.has_header)
+
+none_taken : (taken : List (List ℕ)) → 0 ≡ length taken → taken ≡ []
+none_taken [] e = refl
+none_taken (message ∷ taken) e = absurd (omega (arith, e))
+
+none_used : (uses : List Use) → [] ≡ map (λ it. it.message) uses → uses ≡ []
+none_used [] e = refl
+none_used (it ∷ uses) e = absurd cc
+
+first_in : (handle : Handle) (more ins others : List PeerIn) (waits : Inlet) (message : List ℕ) (kind : HandleKind) → ins ++ others ≡ items.Handle handle ∷ spread more → waits ≡ inlet_of ins → first waits.bytes ≡ Ok (Some message)
+    → handle_for (Some kind) message waits ≡ None → ⊥
+first_in handle more [] others waits message kind split is front lacks =
+    let nothing : first waits.bytes ≡ Ok None = nothing_waits waits (ap (λ (inlet : Inlet). inlet.bytes) is) in
+    let never : Ok None ≡ Ok (Some message) = sym nothing ∙ front in
+    cc
+first_in handle more (item ∷ ins) others waits message kind split is front lacks =
+    let same : item ≡ items.Handle handle = cc in
+    let all : inlet_of (item ∷ ins) ≡ with_items ins (with_item (items.Handle handle) no_inlet) = ap (λ (x : PeerIn). with_items ins (with_item x no_inlet)) same in
+    let rest = handles_stay ins (with_item (items.Handle handle) no_inlet) in
+    let handles : waits.handles ≡ (0, handle) ∷ rest.0 = ap (λ (inlet : Inlet). inlet.handles) (is ∙ all) ∙ rest.1 in
+    let never : None ≡ Some handle = sym lacks ∙ first_ready kind message handle waits rest.0 handles (some_message waits.bytes message front) in
+    cc
+
+missed : (side : Side) (handle : Handle) (more : List PeerIn) (book : Book) → PeerCaused side (items.Handle handle ∷ more) book 0 causes.HandleMissing → ⊥
+missed side handle more book h = by_place h.at
+  where
+    by_place : MessageCaused side (items.Handle handle ∷ more) book 0 causes.HandleMissing h.told ⊎ ItemCaused side (items.Handle handle ∷ more) book 0 causes.HandleMissing h.told → ⊥
+    by_place (inr i) = let never : causes.HandleMissing ≡ causes.PipeUnknown = i.cause_is in cc
+    by_place (inl m) =
+        let t = m.behind.taken_of in
+        let none : t.left.uses ≡ [] = none_used t.left.uses (sym (none_taken book.trail.taken h.index_is) ∙ t.left.took_is) in
+        let is : m.behind.waits ≡ inlet_of t.ins = t.left.left_is ∙ ap (λ (uses : List Use). after_uses uses (inlet_of t.ins)) none in
+        let lacks : handle_for (Some m.has.kind) m.has.it.message m.behind.waits ≡ None = ap (λ (kind : Option HandleKind). handle_for kind m.has.it.message m.behind.waits) (sym m.has.carries) ∙ m.has.none in
+        first_in handle more t.ins m.behind.others m.behind.waits m.has.it.message m.has.kind t.split is m.has.it.front lacks
+
+pub misses_handle : MissesHandle
+misses_handle side handle more steps played last e put =
+    missed side handle more (side_at side last).book (subst (λ (xs : List PeerIn). PeerCaused side xs (side_at side last).book 0 causes.HandleMissing) put (blamed side 0 causes.HandleMissing steps played last e))
 
 -- ---- pipes
 

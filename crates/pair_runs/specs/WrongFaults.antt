@@ -1,11 +1,12 @@
 -- Faults with which no run ends, and no move; this project's own.
-use Rattle.std.specs.Prelude.{◌≡◌, ◌≢◌, ℕ, ◌<◌, List, [], length, Some}
+use Rattle.std.specs.Prelude.{◌≡◌, ◌≢◌, ℕ, ◌<◌, List, [], ◌∷◌, length, Some}
 use Rattle.std.specs.List.{AllByRecursion}
 use Rattle.wp_outside.specs.declared.kinds.Side.{Side}
 use Rattle.transfer_frames.specs.declared.cause.FrameCause.{FrameCause}
+use Rattle.handle_table.specs.declared.handles.Handle.{Handle}
 use Rattle.half_model.specs.declared.causes.Limit.TheVariants.{Connections, Input, Lines}
 use Rattle.half_model.specs.declared.causes.PeerCause.{PeerCause}
-use Rattle.half_model.specs.declared.causes.PeerCause.TheVariants.{PipeUnknown}
+use Rattle.half_model.specs.declared.causes.PeerCause.TheVariants.{HandleMissing, PipeUnknown}
 use Rattle.half_model.specs.declared.items.PeerIn.{PeerIn}
 use Rattle.half_model.specs.declared.items.PeerIn.TheVariants as items
 use Rattle.script_lang.specs.declared.steps.Step.{Step}
@@ -33,6 +34,12 @@ abbrev pub BlamesOther : Type 0
 BlamesOther = (side : Side) (index : ℕ) (cause : PeerCause) (steps : List Step)
     (played : List Played) (last : State) → Ends side (Peer index cause) steps played last
     → index ≢ length (side_at side last).book.trail.taken → ⊥
+
+-- the first message had no handle though its peer had put one before it
+abbrev pub MissesHandle : Type 0
+MissesHandle = (side : Side) (handle : Handle) (more : List PeerIn) (steps : List Step)
+    (played : List Played) (last : State) → Ends side (Peer 0 HandleMissing) steps played last
+    → items_put side played ≡ items.Handle handle ∷ more → ⊥
 
 -- an item for a pipe was refused though none was put
 abbrev pub IsNoPipe : PeerIn → Type 0

@@ -16,7 +16,7 @@ ghost use Rattle.pair_runs.specs.WorkLaws.{FedFails, CameFails, AsksFails};
 ghost use Rattle.pair_runs.specs.WorkLaws.{HandedFails, UpFails, UpLimits, LendsFails, KeptByFault};
 ghost use Rattle.pair_runs.specs.WorkLaws.{GaveWorks, LentIs, HandedIs, HandedWorks, NoneOut};
 ghost use Rattle.pair_runs.specs.WrongFaults.{BlamesNothing, BlamesOther, BlamesPipe, BlamesLink};
-ghost use Rattle.pair_runs.specs.WrongFaults.{LimitsFew, LimitsNone, RefusesUnheard};
+ghost use Rattle.pair_runs.specs.WrongFaults.{LimitsFew, LimitsNone, MissesHandle, RefusesUnheard};
 ghost use Rattle.pair_runs.specs.WrongRuns.{SkipsBreak, ConnectsAgain, SkipsNumber, PushesLess};
 ghost use Rattle.pair_runs.specs.WrongRuns.{TakesFree, LoadsWhole, LeavesWaiting, HoldsOutput};
 ghost use Rattle.pair_runs.specs.WrongRuns.{OwesLoaded};
@@ -137,12 +137,14 @@ pub fn wrong_runs()
 {}
 
 /// No run ends with a fault that blames a message where nothing was put, or another message than
-/// the one behind those that were taken, or an item for a pipe where none was put; with a limit of
+/// the one behind those that were taken, or the first one for want of a handle where one was put
+/// before it, or an item for a pipe where none was put; with a limit of
 /// connections where fewer were made, or one that no side has. And no move refuses a frame where
 /// none is heard, or a message where a connection is made.
 pub fn wrong_faults()
     ensures blames_nothing { BlamesNothing }
     ensures blames_other { BlamesOther }
+    ensures misses_handle { MissesHandle }
     ensures blames_pipe { BlamesPipe }
     ensures limits_few { LimitsFew }
     ensures limits_none { LimitsNone }

@@ -1,4 +1,4 @@
-use Rattle.pair_runs.proofs.WrongFaulting.{blames_nothing, blames_other, blames_pipe, limits_few, limits_none, refuses_unheard, blames_link}
+use Rattle.pair_runs.proofs.WrongFaulting.{misses_handle, blames_nothing, blames_other, blames_pipe, limits_few, limits_none, refuses_unheard, blames_link}
 use Rattle.pair_runs.proofs.laws.wrong_faults.Goals as goal
 
 pub returns-clause-blames_nothing : goal.returns-clause-blames_nothing
@@ -21,3 +21,6 @@ returns-clause-refuses_unheard c = refuses_unheard
 
 pub returns-clause-blames_link : goal.returns-clause-blames_link
 returns-clause-blames_link c = blames_link
+
+pub returns-clause-misses_handle : goal.returns-clause-misses_handle
+returns-clause-misses_handle c = misses_handle
