@@ -1,6 +1,7 @@
 pub mod Ends
 pub mod Composing
 pub mod Turning
+pub mod Tracking
 pub mod Rowing
 pub mod Calling
 pub mod Weights
@@ -12,6 +13,8 @@ pub mod Wrongs
 pub mod Lines
 pub mod Tying
 pub mod Agreeing
+pub mod Refusals
+pub mod Reasons
 pub mod Failing
 pub mod Handing
 pub mod Bringing
@@ -23,3 +26,7 @@ pub mod Passings
 pub mod Ordering
 pub mod Allowing
 pub mod Stopping
+pub mod Feeding
+pub mod Causing
+pub mod Blaming
+pub mod WrongFaulting

@@ -140,7 +140,7 @@ nothing_lent half here t r token up front =
 -- ---- the records are kept
 
 -- a whole message waits only where it must
-treated_so : (s : Now) → treat s ≡ Rest → waits_in s.live.sending ≡ true → due.is_free s.live.sending.owes s.kept.ring ≡ false
+pub treated_so : (s : Now) → treat s ≡ Rest → waits_in s.live.sending ≡ true → due.is_free s.live.sending.owes s.kept.ring ≡ false
 treated_so s rest w = elim (turn_idle s rest) [
   | inl held ↦ held
   | inr idle ↦ by_owes s.live.sending.owes refl idle

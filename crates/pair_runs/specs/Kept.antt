@@ -19,7 +19,7 @@ one_side it fault = record { token = TOKEN; book = it.book; fault = fault }
 
 -- whether a whole message, or a bad size, stands at the front of what waits inside
 abbrev pub waits : SideState → Bool
-waits it = stands_in (first it.inside.bytes)
+waits it = stands_in (first it.inside.inlet.bytes)
 
 -- how many words each copy has of the message that is owed
 abbrev pub owed_words : Option Owed → List ℕ
