@@ -18,7 +18,7 @@ use Rattle.pair_runs.specs.Putting.{items_of_move, items_of_moves, items_by, ite
 use Rattle.pair_runs.specs.Runs.{Played, Rounds, settles, moves_of, Does, DoesBy, End, Drained, Stopped, Fails, end_by, PlaysLine, Plays, round, MOST, size_after}
 use Rattle.pair_runs.specs.States.{State, Fault, first_state, side_at, connections}
 use Rattle.pair_runs.specs.Whys.{Told}
-use Rattle.pair_runs.proofs.Causing.{BothFed, Fed, its, by_both, plain, move_fed, fed_more}
+use Rattle.pair_runs.proofs.Proceeding.{BothFed, Fed, its, by_both, plain, move_fed, fed_more}
 use Rattle.pair_runs.proofs.Composing.{leaves_same}
 use Rattle.pair_runs.proofs.Keeping.{runs_keep}
 

@@ -15,7 +15,9 @@ pub mod Tying
 pub mod Agreeing
 pub mod Refusals
 pub mod Reasons
+pub mod Partly
 pub mod Failing
+pub mod Refusing
 pub mod Handing
 pub mod Bringing
 pub mod Receiving
@@ -28,5 +30,6 @@ pub mod Allowing
 pub mod Stopping
 pub mod Feeding
 pub mod Causing
+pub mod Proceeding
 pub mod Blaming
 pub mod WrongFaulting

@@ -23,7 +23,7 @@ use Rattle.pair_runs.specs.WorkLaws.{RunsOn}
 use Rattle.pair_runs.specs.Working.{Works}
 use Rattle.pair_runs.proofs.Calling.{Ran, ran_by, quiet_still, fed_here}
 use Rattle.pair_runs.proofs.Composing.{works_then}
-use Rattle.pair_runs.proofs.Failing.{then_part, then_works}
+use Rattle.pair_runs.proofs.Partly.{then_part, then_works}
 use Rattle.pair_runs.proofs.Rowing.{stays_quiet}
 
 pub works_more : WorksMore

@@ -14,7 +14,7 @@ use Rattle.pair_runs.specs.Sides.{SideState, on_rows, fed, asked, all_loaded, wa
 use Rattle.pair_runs.specs.States.{State, Lanes, Fault, side_at, with_side, wire_at, with_wire, lane_at, on_lane, writer, reader, connections}
 use Rattle.pair_runs.specs.Taking.{Cut, cut_item, Taker, TakesIn}
 use Rattle.pair_runs.specs.Working.{Works, InPart}
-use Rattle.pair_runs.proofs.Failing.{nothing_part}
+use Rattle.pair_runs.proofs.Partly.{nothing_part}
 
 -- what holds behind good calls, and what behind one that meets a fault
 pub record Steps (R P : SideState → SideState → Type 0) : Type 0 where

@@ -132,7 +132,8 @@ AboveSize limits.Files tell told =
 AboveSize which tell told = ⊥
 
 -- the message tells such a size
-pub record TellsAbove (which : Limit) (side : Side) (state : LogState) (waits : Inlet) : Type 0 where
+pub record TellsAbove (which : Limit) (side : Side) (state : LogState) (waits : Inlet)
+    : Type 0 where
   pub it : Passes side state waits
   pub tell : Tell
   pub says : tell_in state.tables state.shm it.message it.done

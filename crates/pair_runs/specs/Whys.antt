@@ -42,8 +42,8 @@ abbrev pub Told : Side → ProxyFault → Book → Type 0
 Told side fault book = Law side TOKEN book (Some fault)
 
 -- what waits behind these messages that a side took, once it tracks these objects
-pub record Waits (side : Side) (took : List (List ℕ)) (inside : Inside) (ways : List Way) (book : Book)
-    (objects : Tracked) : Type 0 where
+pub record Waits (side : Side) (took : List (List ℕ)) (inside : Inside) (ways : List Way)
+    (book : Book) (objects : Tracked) : Type 0 where
   pub waits : Inlet
   pub left : Leaves took inside.inlet waits
   pub passes : Passes side left.uses inside.objects objects ways book.order
@@ -80,13 +80,14 @@ pub record Stands (side : Side) (item : Option PeerIn) (index : ℕ) (cause : Pe
   pub index_is : index ≡ length book.trail.taken
   pub tracked : track first_objects (order_in side told.story)
       ≡ Ok (tracked_by side told.story)
-  pub at : AtMessage side told.story cause took inside ways book ⊎ AtItem side told.story cause took inside ways book item
+  pub at : AtMessage side told.story cause took inside ways book
+      ⊎ AtItem side told.story cause took inside ways book item
 
 -- ---- a limit
 
 -- the message behind those that were taken tells a size above its limit
-pub record TellsTooMuch (which : Limit) (side : Side) (took : List (List ℕ)) (inside : Inside) (ways : List Way)
-    (book : Book) : Type 0 where
+pub record TellsTooMuch (which : Limit) (side : Side) (took : List (List ℕ)) (inside : Inside)
+    (ways : List Way) (book : Book) : Type 0 where
   pub told : Told side (faults.Limit which) book
   pub behind : Waits side took inside ways book (tracked_by side told.story)
   pub above : TellsAbove which side (now side told.story) behind.waits
@@ -108,8 +109,8 @@ ComesNext state waits (marks.Grouped made copies) = IsMade state.owes made
 ComesNext state waits mark = ⊥
 
 -- what would be recorded next is too heavy
-pub record AddsTooMuch (side : Side) (took : List (List ℕ)) (inside : Inside) (ways : List Way) (book : Book)
-    : Type 0 where
+pub record AddsTooMuch (side : Side) (took : List (List ℕ)) (inside : Inside) (ways : List Way)
+    (book : Book) : Type 0 where
   pub told : Told side (faults.Limit limits.Trail) book
   pub behind : Waits side took inside ways book (tracked_by side told.story)
   pub mark : Mark
@@ -133,8 +134,10 @@ pub record MakesTooMuch (side : Side) (item : Option PeerIn) (took : List (List 
 
 abbrev pub PassesLimit : Limit → Side → Option PeerIn → List (List ℕ) → Inside → List Way → Book
     → Type 0
-PassesLimit limits.File side item took inside ways book = TellsTooMuch limits.File side took inside ways book
-PassesLimit limits.Files side item took inside ways book = TellsTooMuch limits.Files side took inside ways book
+PassesLimit limits.File side item took inside ways book =
+    TellsTooMuch limits.File side took inside ways book
+PassesLimit limits.Files side item took inside ways book =
+    TellsTooMuch limits.Files side took inside ways book
 PassesLimit limits.Trail side item took inside ways book =
     AddsTooMuch side took inside ways book ⊎ MakesTooMuch side item took ways book
 PassesLimit which side item took inside ways book = ⊥
@@ -149,7 +152,8 @@ abbrev pub Why : Side → Bool → Option PeerIn → ProxyFault → List (List �
 Why side hears item (faults.Frame connection place cause) took inside ways book = hears ≡ true
 Why side hears item (faults.Peer index cause) took inside ways book =
     Stands side item index cause took inside ways book
-Why side hears item (faults.Limit which) took inside ways book = PassesLimit which side item took inside ways book
+Why side hears item (faults.Limit which) took inside ways book =
+    PassesLimit which side item took inside ways book
 Why side hears item faults.Memory took inside ways book = Unit {0}
 
 -- ---- what is refused at once
