@@ -4,7 +4,7 @@ use Rattle.std.proofs.lemmas.List.{append-nil}
 use Rattle.std.proofs.lemmas.Bool.{ltb-true, ltb-false}
 use Rattle.std.specs.Option.{MatchOption}
 use Rattle.std.specs.Prelude.{is_some}
-use Rattle.std.specs.Prelude.{IfErr}
+use Rattle.std.specs.Prelude.{IfErr, OnErr, ◌⊎◌}
 use Rattle.transfer_frames.specs.declared.frame.Frame.{Frame}
 use Rattle.half_model.specs.declared.causes.Limit.TheVariants.{Connections}
 use Rattle.half_model.specs.Story.{accepted_in}
@@ -14,7 +14,7 @@ use Rattle.side_model.specs.declared.fault.ProxyFault.{ProxyFault}
 use Rattle.side_model.specs.declared.fault.ProxyFault.TheVariants as faults
 use Rattle.side_model.specs.Books.{Book, MOST_WEIGHT, ITEM_WEIGHT, weight, line_cost, cost_read, rows_read, rows_written, with_room, grown, closed}
 use Rattle.side_model.specs.Calls.{Part, Row, Stops, Runs, Refuses, CallsBarred, CallsAfter, Calls, barred, MOST_CONNECTIONS}
-use Rattle.side_model.specs.Events.{Event, Up, Came, Went, Rest}
+use Rattle.side_model.specs.Events.{Event, Up, Came, Went, Rest, Halt}
 use Rattle.side_model.specs.Follows.{Follows, LinkFollows, GoesOn}
 use Rattle.side_model.specs.Places.{places_in, side_of}
 use Rattle.side_model.specs.Shows.{front_of, front_here, unless_fault}
@@ -22,6 +22,8 @@ use Rattle.side_model.specs.Sound.{Admits}
 use Rattle.side_model.specs.State.{Now, KeptPart}
 use Rattle.side_model.specs.Steps.{step}
 use Rattle.side_model.specs.Trails.{TrailState, with_notes, RunsOn, Keeps, TooHeavy, FailsAtOnce, Fails, Done, FailsSo, HeavyAtOnce, Failed, FailedAtOnce, FailsNow, RunsTrail, TrailAfter, TrailCalls, Sends, NotLent, RunsLends, LendsAfter, Lends, LIMIT_TRAIL}
+use Rattle.side_model.specs.Due.{next}
+use Rattle.side_model.proofs.Calms.{up_rests}
 use Rattle.side_model.proofs.TrailKeeps.{sends_keep, lends_keep}
 use Rattle.side_model.proofs.TrailParts.{begins, Begins, same_weight}
 use Rattle.side_model.proofs.Weighing.{weight_grows}
@@ -231,6 +233,36 @@ line_refused connection why old book few many = by_test (nat_lt MOST_CONNECTIONS
     by_test false e =
         let within : connection ≤ MOST_CONNECTIONS = ltb-false MOST_CONNECTIONS connection e in
         (up_admitted connection old.now within, other_change ITEM_WEIGHT ITEM_WEIGHT why (with_line connection) (λ b. b) (closed old.book) book refl (few within))
+
+-- where none comes up, there is no line more
+up_stops_not : (connection : ℕ) (fault : ProxyFault) (s last : Now) → s.live.here ≡ None → next s ≡ Rest → (fault ≡ faults.Memory → ⊥) → Runs (Up connection) (Err fault) [] s last → ⊥
+up_stops_not connection fault s last none rests m (inl stops) = by_due stops.due
+  where
+    rests_on : next stops.last ≡ Rest
+    rests_on = subst (λ (t : Now). next t ≡ Rest) (sym stops.part) (up_rests s connection none rests)
+
+    by_due : (next stops.last ≡ Halt fault) ⊎ (fault ≡ faults.Memory) → ⊥
+    by_due (inl halts) = absurd (let never : Rest ≡ Halt fault = sym rests_on ∙ halts in cc)
+    by_due (inr memory) = m memory
+up_stops_not connection fault s last none rests m (inr begun) = m begun.memory
+
+pub up_keeps_rows : (connection : ℕ) (result : Result Unit ProxyFault) (old : TrailState) (start book : Book) (last : Now) → RunsOn old → old.now.live.here ≡ None → start ≡ closed old.book → (MOST_CONNECTIONS < connection → book ≡ start)
+    → Calls (Up connection) result [] old.now last → IfErr result (λ f. f ≡ faults.Memory → old.now.fault ≡ Some faults.Memory) → OnErr result (book.trail.lines.rows ≡ old.book.trail.lines.rows)
+up_keeps_rows connection (Ok done) old start book last r none s many calls m = tt
+up_keeps_rows connection (Err fault) old start book last r none s many calls m = by_test (nat_lt MOST_CONNECTIONS connection) refl
+  where
+    no_memory : fault ≡ faults.Memory → ⊥
+    no_memory e = absurd (let never : None ≡ Some faults.Memory = sym r.fault ∙ m e in cc)
+
+    running : CallsBarred (barred (Up connection) old.now) (Up connection) (Err fault) [] old.now last
+    running = subst (λ (g : Option ProxyFault). CallsAfter g (Up connection) (Err fault) [] old.now last) r.fault calls
+
+    by_test : (b : Bool) → nat_lt MOST_CONNECTIONS connection ≡ b → book.trail.lines.rows ≡ old.book.trail.lines.rows
+    by_test true e = ap (λ (b : Book). b.trail.lines.rows) (many (ltb-true MOST_CONNECTIONS connection e) ∙ s)
+    by_test false e =
+        let goes : Runs (Up connection) (Err fault) [] old.now last =
+        subst (λ (g : Option ProxyFault). CallsBarred g (Up connection) (Err fault) [] old.now last) (up_admitted connection old.now (ltb-false MOST_CONNECTIONS connection e)) running in
+        absurd (up_stops_not connection fault old.now last none r.rests no_memory goes)
 
 -- ---- bytes are sent
 

@@ -1,6 +1,6 @@
 //! The calls of the link but for what comes on it.
 
-ghost use Rattle.std.specs.Prelude.{◌≡◌, ◌<◌, ◌≤◌, None, MatchOption};
+ghost use Rattle.std.specs.Prelude.{◌≡◌, ◌<◌, ◌≤◌, None, MatchOption, OnErr};
 ghost use Rattle.side_model.specs.Events.{Up, Down};
 ghost use Rattle.side_model.specs.Trails.{TrailCalls, trail_step, Sends, Lends};
 ghost use Rattle.proxy_trail.specs.Kept.{lent_bytes};
@@ -18,7 +18,8 @@ impl Trail {
     pub fn link_up(&mut self, connection: u32) -> Result<(), ProxyFault>
         requires down { self.old.fault ≡ None → self.old.now.live.here ≡ None }
         requires later { self.old.now.kept.last < connection }
-        ensures { TrailCalls (Up connection) result self.old self.new }
+        ensures calls { TrailCalls (Up connection) result self.old self.new }
+        ensures no_line { OnErr result (self.new.book.trail.lines.rows ≡ self.old.book.trail.lines.rows) }
     {
         if let Some(fault) = self.fault {
             return Err(fault);

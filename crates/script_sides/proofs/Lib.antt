@@ -1,0 +1,14 @@
+pub mod Kins
+pub mod Sounds
+pub mod Gives
+pub mod Wires
+pub mod Words
+pub mod Loadings
+pub mod Backs
+pub mod Begun
+pub mod Links
+pub mod Acting
+pub mod Calls
+pub mod Returned
+pub mod Takes
+pub mod Lends
