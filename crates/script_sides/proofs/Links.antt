@@ -18,7 +18,7 @@ use Rattle.pair_runs.specs.Sides.{SideState, TOKEN, rows_of, last_number, side_s
 use Rattle.pair_runs.specs.WorkLaws.{RunsOn}
 use Rattle.pair_runs.specs.Working.{Works}
 use Rattle.pair_runs.proofs.Calling.{Ran, ran_by, up_is, down_is, lends_is, sends_is}
-use Rattle.pair_runs.proofs.Failing.{up_fails, up_limits}
+use Rattle.pair_runs.proofs.Refusing.{up_fails, up_limits}
 use Rattle.pair_runs.proofs.Showing.{nothing_lent}
 use Rattle.proxy_trail.specs.Kept.{lent_bytes}
 use Rattle.proxy_trail.proofs.Calling.{up_changed}

@@ -9,7 +9,7 @@ use Rattle.pair_runs.specs.Sides.{Inside, SideState, fed_inside, rows_of, last_n
 use Rattle.pair_runs.specs.WorkLaws.{RunsOn}
 use Rattle.pair_runs.specs.Working.{Works}
 use Rattle.pair_runs.proofs.Calling.{ok_done}
-use Rattle.pair_runs.proofs.Failing.{kept_by_fault}
+use Rattle.pair_runs.proofs.Refusing.{kept_by_fault}
 use Rattle.pair_runs.proofs.Showing.{kept_by_calls}
 use Rattle.receipt_laws.specs.Lending.{CopiesAre, LeavesCopies}
 use Rattle.receipt_laws.specs.Owning.{AllOwn, BringsOwn, PutIsOwn}

@@ -147,7 +147,7 @@ one_more most a b c stop cost one all =
           (one.some, one.wants, inr (record { mid = b.side; works = one.behind.1; more = row }));
     }
 
-pub one_fails : (most : ℕ) (a b : Taker) (fault : ProxyFault) → TakesOne most a b (λ it. WorksInPart (fed it.item a.side) b.side) → TakesAll most a b (Some fault)
+pub one_fails : (most : ℕ) (a b : Taker) (fault : ProxyFault) → TakesOne most a b (λ it. WorksInPart false (Some it.item) fault (fed it.item a.side) b.side) → TakesAll most a b (Some fault)
 one_fails most a b fault one = record {
   count = 1;
   row =

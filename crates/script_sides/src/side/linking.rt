@@ -1,7 +1,8 @@
 //! The calls of a side's connection.
 
 ghost use Rattle.std.specs.Prelude.{◌≡◌, ◌<◌, ◌≤◌, [], true, false, length, take, OnOk, IfErr};
-ghost use Rattle.pair_runs.specs.Linking.{written, RefusesPiece};
+ghost use Rattle.pair_runs.specs.Linking.{written};
+ghost use Rattle.pair_runs.specs.Whys.{RefusesPiece};
 ghost use Rattle.pair_runs.specs.Sides.{rows_of, last_number};
 ghost use Rattle.script_sides.specs.Answering.{Leaves, Stays};
 ghost use Rattle.script_sides.specs.Linked.{LinesUp, UpIsLimited, LeavesUp, Hears, HasNoFront};
@@ -52,7 +53,7 @@ impl ScriptSide {
         ensures same { state_of self.new ≡ state_of self.old }
         ensures lent { OnOk result (lent_of self.new ≡ lent_of self.old) }
         ensures room { OnOk result (room_of self.new ≡ length (lent_of self.new)) }
-        ensures refuses { IfErr result RefusesPiece }
+        ensures refuses { IfErr result (λ fault. RefusesPiece fault (state_of self.new).book.trail) }
         ensures leaves { Leaves result self.old self.new }
         ensures peer { self.new.peer ≡ self.old.peer }
     {

@@ -67,7 +67,7 @@ impl ScriptSide {
         requires wants { wants (state_of self.old) ≡ true }
         requires item { IsItem item }
         requires own { PutIsOwn (OwnOf self.old.peer) item }
-        ensures works { Feeds result (fed item (state_of self.old)) (state_of self.new) }
+        ensures works { Feeds item result (state_of self.old) (state_of self.new) }
         ensures leaves { Leaves result self.old self.new }
         ensures wire { self.new.peer.wire ≡ self.old.peer.wire }
     {

@@ -50,7 +50,7 @@ returns-in_err-feed-in-Ok-Some-clause-takes c =
     rw (p.1, p.2)
     (let failed : Result (Option ℕ) ProxyFault = Err c.in_err-feed-in-Ok-Some.field-0.0 in
     subst (λ (x : SideRun). TakesNext c.args.most (taker_of x) (taker_of c.feed.new.self) failed) c.self.view_is
-    (λ n. takes_part c.args.most it c.next.new.self c.in-Ok-Some.it c.feed.new.self w gone c.in_err-feed-in-Ok-Some.ensures.wire (c.in_err-feed-in-Ok-Some.ensures.works n)))
+    (λ n. takes_part c.args.most it c.next.new.self c.in-Ok-Some.it c.feed.new.self w gone c.in_err-feed-in-Ok-Some.ensures.wire c.in_err-feed-in-Ok-Some.field-0.0 (c.in_err-feed-in-Ok-Some.ensures.works n)))
 
 pub returns-in_ok-feed-in-Ok-Some-clause-takes : goal.returns-in_ok-feed-in-Ok-Some-clause-takes
 returns-in_ok-feed-in-Ok-Some-clause-takes c =
