@@ -1,5 +1,5 @@
 -- What the calls of a side's connection leave, and where a side begins.
-use Rattle.std.proofs.Common.{◌≡◌, ◌≢◌, ℕ, ◌+◌, ◌<◌, ◌≤◌, List, [], ◌∷◌, ◌++◌, take, drop, map, length, Bool, true, false, not, Option, Some, None, Result, Ok, Err, OnOk, refl, sym, ap, subst, ◌∙◌, arith, nat_lt, length-drop, inl, inr, ◌⊎◌}
+use Rattle.std.proofs.Common.{◌≡◌, ◌≢◌, ℕ, ◌+◌, ◌<◌, ◌≤◌, List, [], ◌∷◌, ◌++◌, take, drop, map, length, Bool, true, false, not, Option, Some, None, Result, Ok, Err, OnOk, refl, sym, ap, subst, ◌∙◌, arith, nat_lt, length-drop, inl, inr, ◌⊎◌, IfErr}
 use Rattle.std.proofs.lemmas.Bool.{ltb-true, ltb-false}
 use Rattle.std.proofs.lemmas.List.{drop_all}
 use Rattle.std.specs.List.{AllByRecursion}
@@ -18,7 +18,8 @@ use Rattle.pair_runs.specs.Sides.{SideState, TOKEN, rows_of, last_number, side_s
 use Rattle.pair_runs.specs.WorkLaws.{RunsOn}
 use Rattle.pair_runs.specs.Working.{Works}
 use Rattle.pair_runs.proofs.Calling.{Ran, ran_by, up_is, down_is, lends_is, sends_is}
-use Rattle.pair_runs.proofs.Refusing.{up_fails, up_limits}
+use Rattle.pair_runs.proofs.Refusing.{up_fails, up_limits, lends_fails}
+use Rattle.pair_runs.specs.Whys.{RefusesPiece}
 use Rattle.pair_runs.proofs.Showing.{nothing_lent}
 use Rattle.proxy_trail.specs.Kept.{lent_bytes}
 use Rattle.proxy_trail.proofs.Calling.{up_changed}
@@ -169,6 +170,11 @@ room_made it new h lends =
 pub room_lent : (it : SideRun) (new : TrailState) (result : Result Unit ProxyFault) → IsReady it → Lends result it.trail new → OnOk result (lent_of (with_trail new it) ≡ lent_of it)
 room_lent it new (Ok done) h lends = ap lent_bytes (room_made it new h lends)
 room_lent it new (Err fault) h lends = tt
+
+-- why none is made
+pub room_refuses : (it : SideRun) (new : TrailState) (result : Result Unit ProxyFault) → IsReady it → Lends result it.trail new → IfErr result (λ fault. RefusesPiece fault (state_of (with_trail new it)).book.trail)
+room_refuses it new (Ok done) h lends = tt
+room_refuses it new (Err fault) h lends = (lends_fails (half_loaded it.half) fault it.trail new h.sound.runs lends).0
 
 pub room_leaves : (it : SideRun) (new : TrailState) (result : Result Unit ProxyFault) → IsReady it → Keeps new → Lends result it.trail new → Leaves result it (with_trail new it)
 room_leaves it new (Ok done) h k lends =
