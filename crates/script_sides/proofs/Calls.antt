@@ -1,11 +1,9 @@
 -- What the calls of a side come to that bring something to its proxy, where all that the proxy makes is given behind it.
-use Rattle.std.proofs.Common.{◌≡◌, ◌≢◌, ℕ, List, [], Bool, true, false, not, Option, Some, None, Result, Ok, Err, refl, sym, ap, subst, ◌∙◌, arith}
+use Rattle.std.proofs.Common.{◌≡◌, ℕ, List, [], Bool, true, false, Option, Some, None, Ok, Err, refl, sym, ap, subst, ◌∙◌, arith}
 use Rattle.half_model.specs.declared.items.PeerIn.{PeerIn}
-use Rattle.pair_model.specs.Steps.{Here}
 use Rattle.pair_runs.specs.Linking.{read}
 use Rattle.pair_runs.specs.Moves.{ClosedBy}
-use Rattle.pair_runs.specs.Sides.{SideState, fed, asked, wants, last_number}
-use Rattle.pair_runs.specs.WorkLaws.{RunsOn}
+use Rattle.pair_runs.specs.Sides.{SideState, fed, asked, wants}
 use Rattle.pair_runs.specs.Working.{Works, WorksInPart}
 use Rattle.pair_runs.proofs.Calling.{fed_works, came_works, asks_works}
 use Rattle.pair_runs.proofs.Composing.{works_then}
@@ -16,17 +14,15 @@ use Rattle.proxy_trail.specs.Kept.{wants_peer}
 use Rattle.side_model.specs.Shows as shows
 use Rattle.side_model.specs.Shows.{unless_fault}
 use Rattle.receipt_laws.specs.Owning.{PutIsOwn}
-use Rattle.script_sides.specs.Answering.{Stays, Stops, Leaves}
+use Rattle.script_sides.specs.Answering.{Stays, Stops}
 use Rattle.script_sides.specs.Giving.{Gives}
 use Rattle.script_sides.specs.Linked.{Hears}
 use Rattle.script_sides.specs.Ready.{OwnOf, IsSound, IsReady}
 use Rattle.script_sides.specs.Sided.{SideRun, state_of, half_loaded, is_up}
-use Rattle.script_sides.specs.Takings.{Feeds}
-use Rattle.script_sides.proofs.Kins.{Kin, call_kin, call_fell, fed_kin, came_kin, handed_kin, last_read}
+use Rattle.script_sides.proofs.Kins.{call_fell, fed_kin, came_kin, handed_kin, last_read}
 use Rattle.script_sides.proofs.Links.{with_trail, some_here}
-use Rattle.script_sides.proofs.Sounds.{called, CallsOn, call_on, sound_call, fed_asked, stopped}
+use Rattle.script_sides.proofs.Sounds.{CallsOn, call_on, sound_call, fed_asked, stopped}
 use Rattle.side_model.specs.declared.fault.ProxyFault.{ProxyFault}
-use Rattle.side_model.specs.declared.fault.ProxyFault.TheVariants.{Memory}
 use Rattle.side_model.specs.Events.{Fed, Came, Asks}
 use Rattle.side_model.specs.Steps.{step}
 use Rattle.side_model.specs.Trails.{TrailState, Keeps, TrailCalls}

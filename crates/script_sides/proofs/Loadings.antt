@@ -1,9 +1,9 @@
 -- What steps of loading come to one after another.
-use Rattle.std.proofs.Common.{◌≡◌, ◌≢◌, ℕ, zero, suc, ◌+◌, ◌-◌, ◌*◌, ◌<◌, ◌≤◌, List, [], ◌∷◌, length, Bool, true, false, Option, Some, None, Result, Ok, Err, refl, sym, ap, subst, ◌∙◌, arith, length-append, inl, inr, ◌⊎◌}
+use Rattle.std.proofs.Common.{◌≡◌, ◌≢◌, ℕ, zero, suc, ◌+◌, ◌-◌, ◌<◌, ◌≤◌, List, [], ◌∷◌, length, Bool, true, false, Option, Some, None, refl, sym, ap, subst, ◌∙◌, arith, length-append, inl, inr, ◌⊎◌}
 use Rattle.std.specs.List.{AllByRecursion}
 use Rattle.std.specs.Prelude.{sum}
 use Rattle.wl_wire.specs.Wire.{joined, IsMessage}
-use Rattle.pair_runs.specs.Loading.{LoadFails, LoadGoes, LoadsLast, LoadsIn, Loads, LoadsAllIn, LoadsAll}
+use Rattle.pair_runs.specs.Loading.{LoadFails, LoadGoes, LoadsLast, LoadsIn, Loads, LoadsAll}
 use Rattle.pair_runs.specs.Measure.{copies_left}
 use Rattle.pair_runs.specs.Sides.{SideState, all_loaded, words_left}
 use Rattle.pair_runs.specs.Working.{Works, WorksInPart}

@@ -1,8 +1,8 @@
 -- What it comes to that a side takes the next item of its peer's wire.
-use Rattle.std.proofs.Common.{◌≡◌, ◌≢◌, ℕ, ◌-◌, ◌<◌, ◌≤◌, ℤ, List, [], ◌∷◌, Bool, true, false, Option, Some, None, Result, Ok, Err, refl, sym, ap, subst, ◌∙◌, arith, inl, inr}
+use Rattle.std.proofs.Common.{◌≡◌, ℕ, ◌-◌, ◌≤◌, List, [], ◌∷◌, Bool, true, false, Option, Some, Ok, refl, sym, ap, subst, ◌∙◌, arith, inr}
 use Rattle.half_model.specs.declared.items.PeerIn.{PeerIn}
-use Rattle.pair_runs.specs.Sides.{SideState, fed, wants}
-use Rattle.pair_runs.specs.Taking.{Cut, Taker, cut_item}
+use Rattle.pair_runs.specs.Sides.{fed, wants}
+use Rattle.pair_runs.specs.Taking.{Cut, Taker}
 use Rattle.pair_runs.specs.Working.{Works, WorksInPart}
 use Rattle.pair_runs.proofs.Showing.{wants_is}
 use Rattle.proxy_trail.specs.Kept.{wants_peer}

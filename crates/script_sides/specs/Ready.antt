@@ -8,7 +8,7 @@ use Rattle.pair_runs.specs.Sides.{TOKEN, last_number}
 use Rattle.pair_runs.specs.WorkLaws.{RunsOn}
 use Rattle.pool_words.specs.Views.{ReceiptState}
 use Rattle.receipt_laws.specs.Lending.{CopiesAre}
-use Rattle.receipt_laws.specs.Owning.{Ownership, EyeIsOwn, PutIsOwn, AllOwn}
+use Rattle.receipt_laws.specs.Owning.{EyeIsOwn, PutIsOwn, AllOwn}
 use Rattle.script_peers.specs.Owning.{IsOwnReceipt}
 use Rattle.script_peers.specs.Peers.{ScriptedPeer}
 use Rattle.script_sides.specs.Halves.{HalfState}

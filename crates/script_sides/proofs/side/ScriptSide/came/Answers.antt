@@ -1,15 +1,15 @@
-use Rattle.std.proofs.Common.{◌≡◌, ℕ, List, [], true, false, Bool, Option, Some, None, Result, Ok, Err, OnOk, IfOk, arith, refl, sym, ap, subst, ◌∙◌}
+use Rattle.std.proofs.Common.{◌≡◌, true, Result, Err, arith, sym, ap, subst, ◌∙◌}
 use Rattle.std.proofs.lemmas.Result.{err_from_is_err_and}
 use Rattle.script_sides.specs.Sided.{state_of, is_up}
-use Rattle.script_sides.specs.Answering.{Leaves, Stays, Stops}
+use Rattle.script_sides.specs.Answering.{Leaves, Stays}
 use Rattle.script_sides.proofs.Links.{with_trail}
 use Rattle.side_model.specs.declared.fault.ProxyFault.{ProxyFault}
 use Rattle.pair_runs.specs.Linking.{read}
 use Rattle.pair_runs.specs.Working.{Works}
 use Rattle.script_sides.specs.Linked.{Hears}
-use Rattle.script_sides.proofs.Calls.{Ended, ended, came_brought, came_stops, came_fell}
+use Rattle.script_sides.proofs.Calls.{ended, came_brought, came_stops, came_fell}
 use Rattle.script_sides.specs.Sided.{SideRun}
-use Rattle.script_sides.specs.Ready.{IsReady, IsSound}
+use Rattle.script_sides.specs.Ready.{IsReady}
 use Rattle.script_sides.proofs.side.ScriptSide.came.Goals as goal
 
 pub returns-in_err-answer-clause-hears : goal.returns-in_err-answer-clause-hears

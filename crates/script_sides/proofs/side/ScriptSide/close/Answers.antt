@@ -1,14 +1,13 @@
-use Rattle.std.proofs.Common.{◌≡◌, ℕ, List, [], true, false, Bool, Option, Some, None, Result, Ok, Err, OnOk, IfOk, refl, sym, ap, subst, ◌∙◌}
+use Rattle.std.proofs.Common.{◌≡◌, false, None, Result, Err, sym, subst, ◌∙◌}
 use Rattle.std.proofs.lemmas.Result.{err_from_is_err_and}
 use Rattle.script_sides.specs.Sided.{state_of}
 use Rattle.script_sides.specs.Answering.{Leaves, Stays, Answers}
 use Rattle.side_model.specs.declared.fault.ProxyFault.{ProxyFault}
 use Rattle.pair_runs.specs.Moves.{ClosedBy}
-use Rattle.pair_runs.specs.Sides.{SideState, asked}
-use Rattle.pair_runs.specs.Working.{Works, WorksInPart}
-use Rattle.script_sides.proofs.Calls.{asking, word_0, Ended, ended, asks_brought, asks_stops, asks_fell, closes, closes_not}
+use Rattle.pair_runs.specs.Sides.{asked}
+use Rattle.script_sides.proofs.Calls.{asking, word_0, ended, asks_brought, asks_stops, asks_fell, closes, closes_not}
 use Rattle.script_sides.specs.Sided.{SideRun}
-use Rattle.script_sides.specs.Ready.{IsReady, IsSound}
+use Rattle.script_sides.specs.Ready.{IsReady}
 use Rattle.script_sides.proofs.side.ScriptSide.close.Goals as goal
 
 pub returns-in_err-answer-clause-closes : goal.returns-in_err-answer-clause-closes

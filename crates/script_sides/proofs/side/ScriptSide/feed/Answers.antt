@@ -1,18 +1,17 @@
-use Rattle.std.proofs.Common.{◌≡◌, ℕ, List, [], true, false, Bool, Option, Some, None, Result, Ok, Err, OnOk, IfOk, refl, sym, ap, subst, ◌∙◌}
+use Rattle.std.proofs.Common.{◌≡◌, true, false, Result, Err, sym, subst}
 use Rattle.std.proofs.lemmas.Result.{err_from_is_err_and}
-use Rattle.script_sides.specs.Sided.{state_of, is_up}
-use Rattle.script_sides.specs.Answering.{Leaves, Stays, Stops}
+use Rattle.script_sides.specs.Sided.{state_of}
+use Rattle.script_sides.specs.Answering.{Leaves, Stays}
 use Rattle.script_sides.proofs.Links.{with_trail}
 use Rattle.side_model.specs.declared.fault.ProxyFault.{ProxyFault}
 use Rattle.pair_runs.specs.Sides.{fed, wants}
-use Rattle.pair_runs.specs.Working.{Works, WorksInPart}
+use Rattle.pair_runs.specs.Working.{Works}
 use Rattle.receipt_laws.specs.Owning.{PutIsOwn}
 use Rattle.script_sides.specs.Ready.{OwnOf}
 use Rattle.script_sides.specs.Takings.{Feeds}
-use Rattle.proxy_trail.specs.Kept.{wants_peer}
-use Rattle.script_sides.proofs.Calls.{Ended, ended, fed_brought, fed_stops, fed_fell, wants_of, admits_fed}
+use Rattle.script_sides.proofs.Calls.{ended, fed_brought, fed_stops, fed_fell, wants_of, admits_fed}
 use Rattle.script_sides.specs.Sided.{SideRun}
-use Rattle.script_sides.specs.Ready.{IsReady, IsSound}
+use Rattle.script_sides.specs.Ready.{IsReady}
 use Rattle.script_sides.proofs.side.ScriptSide.feed.Goals as goal
 
 pub feed_peer-answer-requires-clause-wants : goal.feed_peer-answer-requires-clause-wants

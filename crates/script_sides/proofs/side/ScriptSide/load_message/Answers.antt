@@ -1,4 +1,3 @@
-use Rattle.std.proofs.Common.{◌≡◌}
 use Rattle.std.proofs.lemmas.Result.{err_from_is_err_and}
 use Rattle.script_sides.specs.Sided.{state_of}
 use Rattle.script_sides.proofs.Loadings.{partly_stops}

@@ -1,9 +1,9 @@
-use Rattle.std.proofs.Common.{◌≡◌, ℕ, List, [], true, false, Bool, Option, Some, None, Result, Ok, Err, OnOk, IfOk, refl, sym, ap, subst, ◌∙◌}
+use Rattle.std.proofs.Common.{◌≡◌, OnOk, sym, subst}
 use Rattle.script_sides.specs.Sided.{lent_of}
 use Rattle.script_sides.specs.Answering.{Leaves}
 use Rattle.script_sides.proofs.Links.{with_trail, room_lent, room_refuses, room_leaves}
 use Rattle.script_sides.specs.Sided.{SideRun}
-use Rattle.script_sides.specs.Ready.{IsReady, IsSound}
+use Rattle.script_sides.specs.Ready.{IsReady}
 use Rattle.script_sides.proofs.side.ScriptSide.make_room.Goals as goal
 
 pub returns-clause-lent : goal.returns-clause-lent
