@@ -120,6 +120,7 @@ takes_more most first left it took cost next on one stays = record {
   where
     now : TookSome most (taker_of it)
     now = takes_some most left (taker_of it) (taker_of next) (λ (cut : Cut). (cost ≡ cut.cost) × Works false (fed cut.item (taker_of it).side) (taker_of next).side) on.few one
+
     by_took : (b : Bool) → took ≡ b → TookSome most (taker_of first)
     by_took true e = on.some e
     by_took false e = subst (λ (taker : Taker). TookSome most taker) (on.none e) now

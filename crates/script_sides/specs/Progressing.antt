@@ -1,6 +1,6 @@
 -- How far words are loaded by one step of it; this project's own.
-use Rattle.std.specs.Prelude.{◌≡◌, ◌≢◌, ◌+◌, ◌-◌, ◌<◌, ◌≤◌, ℕ, Bool, true, false, [], Option, Some, None, Result, Ok}
-use Rattle.std.specs.Prelude.{Err}
+use Rattle.std.specs.Prelude.{◌≡◌, ◌≢◌, ◌+◌, ◌-◌, ◌<◌, ◌≤◌, ℕ, Bool, true, false, []}
+use Rattle.std.specs.Prelude.{Option, Some, None, Result, Ok, Err}
 use Rattle.pair_runs.specs.Loading.{Loads}
 use Rattle.pair_runs.specs.Sides.{SideState, all_loaded, words_left}
 use Rattle.pair_runs.specs.Working.{Works, WorksInPart}

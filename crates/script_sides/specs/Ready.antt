@@ -1,5 +1,5 @@
--- What a side of a replay keeps between two calls: its proxy runs on and has given all, and the copy
--- that is out is the one whose words are being loaded; this project's own.
+-- What a side of a replay keeps between two calls: its proxy runs on and has given all, and the
+-- copy that is out is the one whose words are being loaded; this project's own.
 use Rattle.std.specs.Prelude.{◌≡◌, ◌<◌, ℕ, ℤ, [], Option, Some, None}
 use Rattle.std.specs.List.{AllByRecursion}
 use Rattle.half_model.specs.Jobs.{Job, Waits}

@@ -67,7 +67,13 @@ impl HalfCopy {
         let _all = self.eye.words();
         let count = most.min(self.words.len() - self.loaded);
         let from = self.loaded;
-        load_row(&mut self.eye, self.first, self.words.as_mut_slice(), from, count);
+        load_row(
+            &mut self.eye,
+            self.first,
+            self.words.as_mut_slice(),
+            from,
+            count,
+        );
         self.loaded += count;
         count
     }

@@ -4,7 +4,8 @@ ghost use Rattle.std.specs.Prelude.{◌≡◌, ◌≢◌, ◌<◌, true, false, 
 ghost use Rattle.owed_groups.specs.Lending.{done_of};
 ghost use Rattle.pair_runs.specs.Loading.{LoadsAll};
 ghost use Rattle.script_sides.specs.Answering.{Answers, Leaves};
-ghost use Rattle.script_sides.specs.Progressing.{LoadsBy, LoadsMessage, LoadedBy, Begins, IsLast, before};
+ghost use Rattle.script_sides.specs.Progressing.{LoadsBy, LoadsMessage, LoadedBy};
+ghost use Rattle.script_sides.specs.Progressing.{Begins, IsLast, before};
 ghost use Rattle.script_sides.specs.Ready.{IsReady};
 ghost use Rattle.script_sides.specs.Sided.{state_of};
 ghost use Rattle.side_model.specs.Sound.{HasLoads};

@@ -15,8 +15,8 @@ use half_model::PeerIn;
 use side_model::ProxyFault;
 
 impl ScriptSide {
-    /// Takes from the peer's wire, item by item while it wants them, where at most so many bytes may
-    /// be taken; true where an item was taken.
+    /// Takes from the peer's wire, item by item while it wants them, where at most so many bytes
+    /// may be taken; true where an item was taken.
     ///
     /// # Errors
     /// Those of the proxy, or want of memory.
