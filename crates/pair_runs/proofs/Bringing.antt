@@ -20,7 +20,7 @@ use Rattle.pair_runs.specs.Runs.{bytes_of, bytes_in}
 use Rattle.pair_runs.specs.Sides.{SideState, fed, asked, all_loaded}
 use Rattle.pair_runs.specs.States.{State, Lanes, Fault, side_at, with_side, wire_at, with_wire, lane_at, on_lane, writer, reader, connections}
 use Rattle.pair_runs.specs.Taking.{Cut, behind, piece_size, cut_item, Taker, TakesIn}
-use Rattle.pair_runs.specs.Working.{Works, WorksInPart}
+use Rattle.pair_runs.specs.Working.{Works, InPart}
 use Rattle.pair_runs.proofs.Composing.{joined_then, all_then}
 
 -- ---- one side
@@ -42,11 +42,11 @@ brings_works hears put a b wire w h = record {
       ap (λ (taken : List (List ℕ)). joined taken ++ waiting b wire) w.trail.taken
       ∙ ap (λ (front : List ℕ). front ++ waiting b wire) (joined_then a.book.trail.taken w.took)
       ∙ append_assoc (joined a.book.trail.taken) (joined w.took) (waiting b wire)
-      ∙ ap (λ (rest : List ℕ). joined a.book.trail.taken ++ rest) (sym (append_assoc (joined w.took) b.inside.bytes (bytes_in wire)) ∙ ap (λ (front : List ℕ). front ++ bytes_in wire) (sym w.inside.bytes))
+      ∙ ap (λ (rest : List ℕ). joined a.book.trail.taken ++ rest) (sym (append_assoc (joined w.took) b.inside.inlet.bytes (bytes_in wire)) ∙ ap (λ (front : List ℕ). front ++ bytes_in wire) (sym w.inside.inlet.bytes))
       ∙ h.bytes;
 }
 
-pub brings_part : (put : List ℕ) (a b : SideState) (wire : List PeerIn) → WorksInPart a b → BringsAt put a wire → BringsPart put b
+pub brings_part : (put : List ℕ) (a b : SideState) (wire : List PeerIn) → InPart a b → BringsAt put a wire → BringsPart put b
 brings_part put a b wire w h = (
   w.bytes.rest ++ bytes_in wire,
   record {
@@ -74,9 +74,9 @@ take_drop (suc n) (x ∷ xs) = ap (λ (rest : List ℕ). x ∷ rest) (take_drop 
 fed_waits : (most : ℕ) (item : PeerIn) (wire : List PeerIn) (a : SideState) → waiting (fed (cut_item most item wire).item a) (cut_item most item wire).rest ≡ waiting a (item ∷ wire)
 fed_waits most (items.Bytes bytes) wire a =
     let n : ℕ = piece_size most bytes in
-    ap (λ (rest : List ℕ). (a.inside.bytes ++ take n bytes) ++ rest) (bytes_behind (drop n bytes) wire)
-    ∙ append_assoc a.inside.bytes (take n bytes) (drop n bytes ++ bytes_in wire)
-    ∙ ap (λ (rest : List ℕ). a.inside.bytes ++ rest) (sym (append_assoc (take n bytes) (drop n bytes) (bytes_in wire)) ∙ ap (λ (front : List ℕ). front ++ bytes_in wire) (take_drop n bytes))
+    ap (λ (rest : List ℕ). (a.inside.inlet.bytes ++ take n bytes) ++ rest) (bytes_behind (drop n bytes) wire)
+    ∙ append_assoc a.inside.inlet.bytes (take n bytes) (drop n bytes ++ bytes_in wire)
+    ∙ ap (λ (rest : List ℕ). a.inside.inlet.bytes ++ rest) (sym (append_assoc (take n bytes) (drop n bytes) (bytes_in wire)) ∙ ap (λ (front : List ℕ). front ++ bytes_in wire) (take_drop n bytes))
 fed_waits most (items.Handle handle) wire a = refl
 fed_waits most (items.Note note) wire a = refl
 fed_waits most (items.Pipe item) wire a = refl
@@ -96,7 +96,7 @@ takes_bring (suc count) most put a [] b stop t h = absurd t
 takes_bring (suc count) most put a (item ∷ wire) b stop t h = elim t.2 [
   | inl fails ↦
       let it : Cut = cut_item most item wire in
-      subst (λ (s : Option ProxyFault). BringsBy s put b.side b.wire) (sym fails.stops) (brings_part put (fed it.item a) b.side it.rest fails.part (brings_fed put most item wire a h))
+      subst (λ (s : Option ProxyFault). BringsBy s put b.side b.wire) (sym fails.stops) (brings_part put (fed it.item a) b.side it.rest fails.part.part (brings_fed put most item wire a h))
   | inr goes ↦
       let it : Cut = cut_item most item wire in
       takes_bring count (most - it.cost) put goes.mid it.rest b stop goes.more (brings_works false put (fed it.item a) goes.mid it.rest goes.works (brings_fed put most item wire a h))
@@ -110,14 +110,14 @@ loads_bring zero words over put a b wire stop l h = subst (λ (s : Option ProxyF
   | inr last ↦ subst (λ (it : SideState). BringsAt put it wire) (sym last.1) h
 ])
 loads_bring (suc count) words over put a b wire stop l h = elim l.2 [
-  | inl fails ↦ subst (λ (s : Option ProxyFault). BringsBy s put b wire) (sym fails.stops) (brings_part put a b wire fails.part h)
+  | inl fails ↦ subst (λ (s : Option ProxyFault). BringsBy s put b wire) (sym fails.stops) (brings_part put a b wire fails.part.part h)
   | inr goes ↦ loads_bring count _ over put goes.1.mid b wire stop goes.1.more (brings_works false put (all_loaded a) goes.1.mid wire goes.1.works h)
 ]
 
 all_bring : (count : ℕ) (put : List ℕ) (a b : SideState) (wire : List PeerIn) (stop : Option ProxyFault) → LoadsAllIn count a b stop → BringsAt put a wire → BringsBy stop put b wire
 all_bring zero put a b wire stop l h = subst (λ (s : Option ProxyFault). BringsBy s put b wire) (sym l.2) (subst (λ (it : SideState). BringsAt put it wire) (sym l.1) h)
 all_bring (suc count) put a b wire stop l h = elim l.1 [
-  | inl fails ↦ subst (λ (s : Option ProxyFault). BringsBy s put b wire) (sym fails.stops) (brings_part put a b wire fails.part h)
+  | inl fails ↦ subst (λ (s : Option ProxyFault). BringsBy s put b wire) (sym fails.stops) (brings_part put a b wire fails.part.part h)
   | inr goes ↦ all_bring count put goes.mid b wire stop goes.more (brings_works false put (all_loaded a) goes.mid wire goes.works h)
 ]
 
@@ -125,7 +125,7 @@ closed_bring : (said : Bool) (put : List ℕ) (a b : SideState) (wire : List Pee
 closed_bring true put a b wire None c h = subst (λ (it : SideState). BringsAt put it wire) (sym c) h
 closed_bring true put a b wire (Some fault) c h = absurd c
 closed_bring false put a b wire None c h = brings_works false put (asked a) b wire c h
-closed_bring false put a b wire (Some fault) c h = brings_part put (asked a) b wire c h
+closed_bring false put a b wire (Some fault) c h = brings_part put (asked a) b wire c.part h
 
 -- ---- both sides
 
@@ -251,12 +251,12 @@ wire_more put taken inside wire more h = record {
 
 put_brings : (side : Side) (put : List PeerIn) (near far : List ℕ) (s : State) → Both near far s → Both (near ++ put_in_move Near (Put side put)) (far ++ put_in_move Far (Put side put)) (with_wire side (wire_at side s ++ put) s)
 put_brings Near put near far s h = record {
-  near_brings = wire_more near s.near.book.trail.taken s.near.inside.bytes s.near_wire put h.near_brings;
+  near_brings = wire_more near s.near.book.trail.taken s.near.inside.inlet.bytes s.near_wire put h.near_brings;
   far_brings = subst (λ (xs : List ℕ). BringsAt xs s.far s.far_wire) (sym (append-nil far)) h.far_brings;
 }
 put_brings Far put near far s h = record {
   near_brings = subst (λ (xs : List ℕ). BringsAt xs s.near s.near_wire) (sym (append-nil near)) h.near_brings;
-  far_brings = wire_more far s.far.book.trail.taken s.far.inside.bytes s.far_wire put h.far_brings;
+  far_brings = wire_more far s.far.book.trail.taken s.far.inside.inlet.bytes s.far_wire put h.far_brings;
 }
 
 taken_brings : (side : Side) (most : ℕ) (near far : List ℕ) (s t : State) (stop : Option Fault) → Both near far s → Taken side most s t stop → BothBy stop near far t

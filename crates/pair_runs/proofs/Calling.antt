@@ -1,12 +1,12 @@
 -- What each good call of a proxy with its records is in a run.
 use Rattle.std.proofs.Common.{◌≡◌, ℕ, List, [], ◌∷◌, take, length, Bool, true, false, not, Option, Some, None, Ok, Err, refl, sym, ap, subst, ◌∙◌, arith, inl, inr}
-use Rattle.std.proofs.lemmas.List.{append-nil, map-append}
-use Rattle.handle_table.specs.declared.handles.Handle.{Handle}
-use Rattle.shm_pools.specs.declared.notes.Note.{Note}
+use Rattle.std.proofs.lemmas.List.{append-nil}
 use Rattle.wp_outside.specs.declared.pipe_items.PipeItem.{PipeItem}
 use Rattle.wp_outside.specs.declared.pipe_items.PipeItem.TheVariants as pieces
 use Rattle.half_model.specs.declared.items.PeerIn.{PeerIn}
 use Rattle.half_model.specs.declared.items.PeerIn.TheVariants as items
+use Rattle.wl_objects.specs.Entries.{Tracked}
+use Rattle.half_model.specs.Tables.{Tables}
 use Rattle.half_model.specs.PipeTurn as pipes
 use Rattle.half_model.specs.PipeTurn.{PipeTurn, pipe_turn}
 use Rattle.pair_model.specs.Steps.{Here}
@@ -25,14 +25,18 @@ use Rattle.side_model.specs.Steps.{step, fed_pipe, gone}
 use Rattle.side_model.specs.Trails.{TrailState, with_notes, Done, TrailAfter, TrailCalls, RunsLends, LendsAfter}
 use Rattle.side_model.proofs.Calms.{up_rests, went_then_chooses}
 use Rattle.side_model.proofs.Dues.{IsQuiet, all_rest, is_quiet, hears_none}
+use Rattle.side_model.proofs.Parts.{FollowsOn}
 use Rattle.side_model.proofs.RowProofs.{none_after}
+use Rattle.side_model.proofs.TrailParts.{begins}
+use Rattle.pair_runs.specs.Leaving.{Passes}
 use Rattle.pair_runs.specs.Linking.{written, read}
 use Rattle.pair_runs.specs.Sides.{SideState, fed, asked, seen, side_seen, with_inside}
 use Rattle.pair_runs.specs.WorkLaws.{RunsOn, FedWorks, CameWorks, AsksWorks, UpIs, DownIs, LendsIs, SendsIs}
 use Rattle.pair_runs.specs.Working.{Works}
-use Rattle.pair_runs.proofs.Composing.{takes_same, works_same, works_then}
+use Rattle.pair_runs.proofs.Composing.{leaves_same, works_same, works_then}
 use Rattle.pair_runs.proofs.Ends.{front_same, front_more}
 use Rattle.pair_runs.proofs.Rowing.{row_works, quiet_row, marked_book}
+use Rattle.pair_runs.proofs.Tracking.{passes_same, objects_in, pipe_objects}
 
 -- ---- a call that rests again
 
@@ -65,16 +69,20 @@ ran_by event old new r calls =
       is = λ half. ap (λ (s : Now). seen half s new.book) d.now ∙ ap (λ (book : Book). seen half d.last book) d.whole.book;
     }
 
-may_work : (half : ℕ) (event : Event) (old new : TrailState) → Ran event old new → Works true (seen half (step event old.now) (grown event old.now (closed old.book))) (side_seen half new)
-may_work half event old new r =
-    subst (λ (b : SideState). Works true (seen half (step event old.now) (grown event old.now (closed old.book))) b) (sym (r.is half))
-    (row_works half (step event old.now) r.last (grown event old.now (closed old.book)) r.events r.row.0)
+-- it may be called so
+pub after_event : (event : Event) (old : TrailState) → RunsOn old → Admits event old.now → FollowsOn (step event old.now) (grown event old.now (closed old.book))
+after_event event old r admits = (begins old event r.goes_on r.keeps admits).after
 
-pub quiet_work : (half : ℕ) (event : Event) (old new : TrailState) → hear (step event old.now) ≡ Rest → Ran event old new
+may_work : (half : ℕ) (event : Event) (old new : TrailState) → FollowsOn (step event old.now) (grown event old.now (closed old.book)) → Ran event old new → Works true (seen half (step event old.now) (grown event old.now (closed old.book))) (side_seen half new)
+may_work half event old new f r =
+    subst (λ (b : SideState). Works true (seen half (step event old.now) (grown event old.now (closed old.book))) b) (sym (r.is half))
+    (row_works half (step event old.now) r.last (grown event old.now (closed old.book)) r.events f r.row.0)
+
+pub quiet_work : (half : ℕ) (event : Event) (old new : TrailState) → FollowsOn (step event old.now) (grown event old.now (closed old.book)) → hear (step event old.now) ≡ Rest → Ran event old new
     → Works false (seen half (step event old.now) (grown event old.now (closed old.book))) (side_seen half new)
-quiet_work half event old new quiet r =
+quiet_work half event old new f quiet r =
     subst (λ (b : SideState). Works false (seen half (step event old.now) (grown event old.now (closed old.book))) b) (sym (r.is half))
-    (quiet_row half (step event old.now) r.last (grown event old.now (closed old.book)) r.events quiet r.row.0)
+    (quiet_row half (step event old.now) r.last (grown event old.now (closed old.book)) r.events f quiet r.row.0)
 
 -- ---- an item of the peer
 
@@ -87,29 +95,30 @@ dropped_works half (pieces.Bytes rid bytes) s t book e = same_works false (sym e
 dropped_works half (pieces.End rid) s t book e = same_works false (sym e)
 dropped_works half (pieces.Shut rid) s t book e = same_works false (sym e)
 
-pipe_works : (half : ℕ) (item : PipeItem) (s : Now) (book : Book) (it : PipeTurn)
+-- with other objects, which are the same
+with_objects : (half : ℕ) (s : Now) (book : Book) (tables : Tables) → tables.objects.tracked ≡ s.live.tables.objects.tracked → seen half (fed_pipe (pipes.Drops tables) s) book ≡ seen half s book
+with_objects half s book tables e = ap (λ (objects : Tracked). with_inside (λ inside. record inside { objects = objects }) (seen half s book)) e
+
+pipe_works : (half : ℕ) (item : PipeItem) (s : Now) (book : Book) (it : PipeTurn) → objects_in s.live.tables it ≡ s.live.tables.objects.tracked
     → Works false (seen half s book) (seen half (fed_pipe it s) (marked_book s.side (mark_pipe item it) book))
-pipe_works half item s book pipes.Barred = works_same false (seen half s book)
-pipe_works half item s book (pipes.Drops tables) = dropped_works half item s (fed_pipe (pipes.Drops tables) s) book refl
-pipe_works half item s book (pipes.Makes frame tables) = record {
+pipe_works half item s book pipes.Barred e = works_same false (seen half s book)
+pipe_works half item s book (pipes.Drops tables) e = dropped_works half item s (fed_pipe (pipes.Drops tables) s) book (with_objects half s book tables e)
+pipe_works half item s book (pipes.Makes frame tables) e = record {
   took = [];
-  inside = takes_same (seen half s book).inside;
+  inside = record { messages = tt; inlet = leaves_same s.live.sending.inlet; asked = refl; none = λ n. refl };
   awaits = record { stay = λ e. (refl, refl); begin = λ n. absurd (n refl) };
   trail = record { side = refl; taken = sym (append-nil book.trail.taken); made = front_more book.trail.made _; copies = front_more book.trail.copies _; lines = refl; accepted = omega arith };
   order = front_same book.order;
-  silent = λ n. record { accepted = refl; acknowledged = refl; given = refl; order = λ m. refl };
+  passes = subst (λ (objects : Tracked). Passes book.trail.side [] s.live.tables.objects.tracked objects book.order book.order) (sym e) (passes_same book.trail.side s.live.tables.objects.tracked book.order);
+  silent = λ n. record { accepted = refl; acknowledged = refl; given = refl; order = λ m. refl; objects = λ m. e };
 }
 
 pub fed_base : (half : ℕ) (item : PeerIn) (s : Now) (book : Book) → Works false (fed item (seen half s book)) (seen half (step (Fed item) s) (grown (Fed item) s (closed book)))
 unfolding step
 fed_base half (items.Bytes piece) s book = works_same false (fed (items.Bytes piece) (seen half s book))
-fed_base half (items.Handle handle) s book =
-    same_works false (ap (λ (handles : List Handle). with_inside (λ inside. record inside { handles = handles }) (seen half s book))
-    (sym (map-append (λ one. one.1) s.live.sending.inlet.handles ((s.live.sending.inlet.fed, handle) ∷ []))))
-fed_base half (items.Note note) s book =
-    same_works false (ap (λ (notes : List Note). with_inside (λ inside. record inside { notes = notes }) (seen half s book))
-    (sym (map-append (λ one. one.1) s.live.sending.inlet.notes ((s.live.sending.inlet.fed, note) ∷ []))))
-fed_base half (items.Pipe item) s book = pipe_works half item s (closed book) (pipe_turn s.live.tables s.live.taking item)
+fed_base half (items.Handle handle) s book = works_same false (fed (items.Handle handle) (seen half s book))
+fed_base half (items.Note note) s book = works_same false (fed (items.Note note) (seen half s book))
+fed_base half (items.Pipe item) s book = pipe_works half item s (closed book) (pipe_turn s.live.tables s.live.taking item) (pipe_objects s.live.tables s.live.taking item)
 
 pipe_here : (it : PipeTurn) (s : Now) → (fed_pipe it s).live.here ≡ s.live.here
 pipe_here pipes.Barred s = refl
@@ -128,9 +137,9 @@ quiet_still event s rest e =
     hears_none (step event s) (subst (λ (here : Option Here). IsQuiet here) (sym e) (is_quiet s (all_rest s rest).hears))
 
 pub fed_works : FedWorks
-fed_works half item old new r calls =
+fed_works half item old new r admits calls =
     works_then false _ _ _ (fed_base half item old.now old.book)
-    (quiet_work half (Fed item) old new (quiet_still (Fed item) old.now (r.keeps.runs r.goes_on).rests (fed_here item old.now)) (ran_by (Fed item) old new r calls))
+    (quiet_work half (Fed item) old new (after_event (Fed item) old r admits) (quiet_still (Fed item) old.now (r.keeps.runs r.goes_on).rests (fed_here item old.now)) (ran_by (Fed item) old new r calls))
 
 -- ---- the link
 
@@ -140,9 +149,9 @@ unfolding step
 came_base half piece here s book up e d = ap (λ (it : Option Here). seen half s (record book { trail = record book.trail { lines = record { rows = rows_read piece it book.trail.lines.rows; room = 0 } } })) (e ∙ d)
 
 pub came_works : CameWorks
-came_works half piece here old new r up calls =
+came_works half piece here old new r admits up calls =
     subst (λ (a : SideState). Works true a (side_seen half new)) (came_base half piece here old.now old.book old.now.live.here refl up)
-    (may_work half (Came piece) old new (ran_by (Came piece) old new r calls))
+    (may_work half (Came piece) old new (after_event (Came piece) old r admits) (ran_by (Came piece) old new r calls))
 
 -- where nothing is due behind the event
 pub still_is : (half : ℕ) (event : Event) (old new : TrailState) → next (step event old.now) ≡ Rest → Ran event old new
@@ -183,7 +192,7 @@ went_base : (half n : ℕ) (here : Here) (s : Now) (book : Book) → s.live.here
 unfolding step
 went_base half n here s book up = ap (λ (it : Option Here). seen half s (record book { trail = record book.trail { lines = record { rows = rows_written n it book.trail.lines.rows; room = 0 } } })) up
 
-fault_front : (s : Now) → s.fault ≡ None → front_of s ≡ front_here s.live.here
+pub fault_front : (s : Now) → s.fault ≡ None → front_of s ≡ front_here s.live.here
 fault_front s e = ap (λ (fault : Option ProxyFault). unless_fault fault (front_here s.live.here) []) e
 
 pub sends_is : SendsIs
@@ -209,6 +218,6 @@ asks_base half reason s book closing e = ap (λ (said : Bool). with_inside (λ i
 
 pub asks_works : AsksWorks
 unfolding step
-asks_works half reason old new r calls =
+asks_works half reason old new r admits calls =
     subst (λ (a : SideState). Works false a (side_seen half new)) (asks_base half reason old.now old.book old.now.kept.closing refl)
-    (quiet_work half (Asks reason) old new (quiet_still (Asks reason) old.now (r.keeps.runs r.goes_on).rests refl) (ran_by (Asks reason) old new r calls))
+    (quiet_work half (Asks reason) old new (after_event (Asks reason) old r admits) (quiet_still (Asks reason) old.now (r.keeps.runs r.goes_on).rests refl) (ran_by (Asks reason) old new r calls))

@@ -1,20 +1,24 @@
 -- What calls change, one after another.
-use Rattle.std.proofs.Common.{◌≡◌, ◌≢◌, ℕ, Bool, true, false, List, [], ◌∷◌, ◌++◌, refl, sym, ap, ◌∙◌, append_assoc, arith}
-use Rattle.std.proofs.lemmas.List.{append-nil}
+use Rattle.std.proofs.Common.{◌≡◌, ◌≢◌, ℕ, Bool, true, false, List, [], ◌∷◌, ◌++◌, map, refl, sym, ap, subst, ◌∙◌, append_assoc, arith}
+use Rattle.std.proofs.lemmas.List.{append-nil, map-append}
 use Rattle.std.specs.List.{AllByRecursion}
+use Rattle.wp_outside.specs.declared.kinds.Side.{Side}
 use Rattle.wl_wire.specs.Wire.{joined, IsMessage}
+use Rattle.half_model.specs.Inlet.{Inlet, inlet_after}
 use Rattle.side_model.specs.Books.{TrailRecord}
+use Rattle.pair_runs.specs.Leaving.{Use, after_uses, Leaves, Passes}
 use Rattle.pair_runs.specs.Sides.{Inside, SideState}
 use Rattle.pair_runs.specs.Working.{Takes, Awaits, Grows, Silent, Works}
-use Rattle.pair_runs.proofs.Ends.{front_same, front_then, end_same, end_then}
+use Rattle.pair_runs.proofs.Ends.{front_same, front_then}
+use Rattle.pair_runs.proofs.Tracking.{passes_same, passes_then}
 
 -- ---- lists of messages
 
-none_left : {X : Type 0} (xs ys : List X) → xs ++ ys ≡ [] → xs ≡ []
+pub none_left : {X : Type 0} (xs ys : List X) → xs ++ ys ≡ [] → xs ≡ []
 none_left [] ys e = refl
 none_left (x ∷ xs) ys e = absurd cc
 
-none_right : {X : Type 0} (xs ys : List X) → xs ++ ys ≡ [] → ys ≡ []
+pub none_right : {X : Type 0} (xs ys : List X) → xs ++ ys ≡ [] → ys ≡ []
 none_right [] ys e = e
 none_right (x ∷ xs) ys e = absurd cc
 
@@ -26,10 +30,33 @@ pub all_then : {X : Type 0} (P : X → Type 0) (xs ys : List X) → AllByRecursi
 all_then P [] ys h k = k
 all_then P (x ∷ xs) ys h k = (h.0, all_then P xs ys h.1 k)
 
+-- ---- what waits inside
+
+abbrev pub leaves_same : (waits : Inlet) → Leaves [] waits waits
+leaves_same waits = record { uses = []; took_is = refl; left_is = refl; bytes = refl }
+
+pub uses_then : (us vs : List Use) (inlet : Inlet) → after_uses (us ++ vs) inlet ≡ after_uses vs (after_uses us inlet)
+uses_then [] vs inlet = refl
+uses_then (it ∷ us) vs inlet = uses_then us vs (inlet_after it.kind it.deed it.message inlet)
+
+abbrev pub leaves_then : (xs ys : List (List ℕ)) {a b c : Inlet} → Leaves xs a b → Leaves ys b c → Leaves (xs ++ ys) a c
+leaves_then xs ys {a} {b} {c} f g = record {
+  uses = f.uses ++ g.uses;
+  took_is =
+      ap (λ messages. messages ++ ys) f.took_is
+      ∙ ap (λ messages. map (λ (it : Use). it.message) f.uses ++ messages) g.took_is
+      ∙ sym (map-append (λ (it : Use). it.message) f.uses g.uses);
+  left_is = g.left_is ∙ ap (after_uses g.uses) f.left_is ∙ sym (uses_then f.uses g.uses a);
+  bytes =
+      f.bytes ∙ ap (λ bytes. joined xs ++ bytes) g.bytes
+      ∙ sym (append_assoc (joined xs) (joined ys) c.bytes)
+      ∙ ap (λ bytes. bytes ++ c.bytes) (sym (joined_then xs ys));
+}
+
 -- ---- nothing
 
-pub takes_same : (a : Inside) → Takes [] a a
-takes_same a = record { messages = tt; bytes = refl; handles = end_same a.handles; notes = end_same a.notes; asked = refl; none = λ e. refl }
+abbrev pub takes_same : (a : Inside) → Takes [] a a
+takes_same a = record { messages = tt; inlet = leaves_same a.inlet; asked = refl; none = λ e. refl }
 
 pub grows_same : (a : TrailRecord) → Grows [] a a
 grows_same a = record { side = refl; taken = sym (append-nil a.taken); made = front_same a.made; copies = front_same a.copies; lines = refl; accepted = omega arith }
@@ -41,20 +68,16 @@ works_same hears a = record {
   awaits = record { stay = λ e. (refl, refl); begin = λ n. absurd (n refl) };
   trail = grows_same a.book.trail;
   order = front_same a.book.order;
-  silent = λ e. record { accepted = refl; acknowledged = refl; given = refl; order = λ n. refl };
+  passes = passes_same a.book.trail.side a.inside.objects a.book.order;
+  silent = λ e. record { accepted = refl; acknowledged = refl; given = refl; order = λ n. refl; objects = λ n. refl };
 }
 
 -- ---- one after another
 
-pub takes_then : (xs ys : List (List ℕ)) {a b c : Inside} → Takes xs a b → Takes ys b c → Takes (xs ++ ys) a c
+abbrev pub takes_then : (xs ys : List (List ℕ)) {a b c : Inside} → Takes xs a b → Takes ys b c → Takes (xs ++ ys) a c
 takes_then xs ys {a} {b} {c} h k = record {
   messages = all_then IsMessage xs ys h.messages k.messages;
-  bytes =
-      h.bytes ∙ ap (λ bytes. joined xs ++ bytes) k.bytes
-      ∙ sym (append_assoc (joined xs) (joined ys) c.bytes)
-      ∙ ap (λ bytes. bytes ++ c.bytes) (sym (joined_then xs ys));
-  handles = end_then h.handles k.handles;
-  notes = end_then h.notes k.notes;
+  inlet = leaves_then xs ys h.inlet k.inlet;
   asked = k.asked ∙ h.asked;
   none = λ e. k.none (none_right xs ys e) ∙ h.none (none_left xs ys e);
 }
@@ -91,6 +114,7 @@ silent_then xs ys h k = record {
   acknowledged = k.acknowledged ∙ h.acknowledged;
   given = k.given ∙ h.given;
   order = λ e. k.order (none_right xs ys e) ∙ h.order (none_left xs ys e);
+  objects = λ e. k.objects (none_right xs ys e) ∙ h.objects (none_left xs ys e);
 }
 
 pub works_then : (hears : Bool) (a b c : SideState) → Works hears a b → Works hears b c → Works hears a c
@@ -100,9 +124,12 @@ works_then hears a b c h k = record {
   awaits = awaits_then h.took k.took h.awaits k.awaits;
   trail = grows_then h.took k.took h.trail k.trail;
   order = front_then h.order k.order;
+  passes =
+      passes_then a.book.trail.side h.inside.inlet.uses k.inside.inlet.uses a.inside.objects b.inside.objects c.inside.objects a.book.order b.book.order c.book.order h.passes
+      (subst (λ (side : Side). Passes side k.inside.inlet.uses b.inside.objects c.inside.objects b.book.order c.book.order) h.trail.side k.passes);
   silent = λ e. silent_then h.took k.took (h.silent e) (k.silent e);
 }
 
 -- a call that may not hear is one that may
 pub may_hear : (a b : SideState) → Works false a b → Works true a b
-may_hear a b h = record { took = h.took; inside = h.inside; awaits = h.awaits; trail = h.trail; order = h.order; silent = λ e. absurd cc }
+may_hear a b h = record { took = h.took; inside = h.inside; awaits = h.awaits; trail = h.trail; order = h.order; passes = h.passes; silent = λ e. absurd cc }

@@ -1,8 +1,7 @@
--- Fronts and ends of lists, one after another.
-use Rattle.std.proofs.Common.{List, [], ◌∷◌, ◌++◌, map, refl, sym, ap, ◌∙◌, append_assoc}
-use Rattle.std.proofs.lemmas.List.{append-nil, map-append}
+-- Fronts of lists, one after another.
+use Rattle.std.proofs.Common.{List, [], ◌++◌, refl, sym, ap, ◌∙◌, append_assoc}
+use Rattle.std.proofs.lemmas.List.{append-nil}
 use Rattle.plain_lists.specs.Fronts.{IsFront}
-use Rattle.pair_runs.specs.Working.{IsEnd}
 
 pub front_same : {X : Type 0} (xs : List X) → IsFront xs xs
 front_same xs = record { rest = []; is = append-nil xs }
@@ -15,18 +14,3 @@ front_then {X} {xs} {ys} {zs} f g = record {
   rest = f.rest ++ g.rest;
   is = sym (append_assoc xs f.rest g.rest) ∙ ap (λ (v : List X). v ++ g.rest) f.is ∙ g.is;
 }
-
-pub end_same : {X : Type 0} (xs : List X) → IsEnd xs xs
-end_same xs = record { gone = []; is = refl }
-
-pub end_one : {X : Type 0} (x : X) (xs : List X) → IsEnd xs (x ∷ xs)
-end_one x xs = record { gone = x ∷ []; is = refl }
-
-pub end_then : {X : Type 0} {xs ys zs : List X} → IsEnd ys xs → IsEnd zs ys → IsEnd zs xs
-end_then {X} {xs} {ys} {zs} f g = record {
-  gone = f.gone ++ g.gone;
-  is = append_assoc f.gone g.gone zs ∙ ap (λ (v : List X). f.gone ++ v) g.is ∙ f.is;
-}
-
-pub end_map : {X Y : Type 0} (f : X → Y) {xs ys : List X} → IsEnd ys xs → IsEnd (map f ys) (map f xs)
-end_map f {xs} {ys} e = record { gone = map f e.gone; is = sym (map-append f e.gone ys) ∙ ap (map f) e.is }

@@ -1,286 +1,355 @@
--- What each call of a proxy with its records leaves in a run that meets a fault.
-use Rattle.std.proofs.Common.{◌≡◌, ℕ, ◌<◌, ◌≤◌, nat_lt, List, [], ◌∷◌, ◌++◌, Bool, true, false, if◌then◌else◌, Option, Some, None, Result, Ok, Err, refl, sym, ap, subst, ◌∙◌, append_assoc, arith, inl, inr, ◌⊎◌}
-use Rattle.std.proofs.lemmas.Bool.{ltb-true, ltb-false}
-use Rattle.wl_wire.specs.Wire.{joined, IsMessage}
+-- What each call of a proxy with its records leaves in a run that meets a fault, and why it meets it.
+use Rattle.std.proofs.Common.{◌≡◌, ℕ, ◌+◌, ◌<◌, ◌≤◌, length, List, [], ◌∷◌, ◌++◌, Bool, true, false, Option, Some, None, Err, refl, sym, ap, subst, ◌∙◌, arith, inl, inr, ◌⊎◌}
 use Rattle.wp_outside.specs.declared.kinds.Side.{Side}
-use Rattle.side_model.specs.declared.fault.ProxyFault.{ProxyFault}
-use Rattle.side_model.specs.Books.{Book, grown, grow_all, closed}
+use Rattle.half_model.specs.declared.causes.Limit.TheVariants as limits
 use Rattle.half_model.specs.declared.causes.Limit.TheVariants.{Connections, Trail}
-use Rattle.side_model.specs.Calls.{Part, CallsBarred, CallsAfter, MOST_CONNECTIONS}
-use Rattle.side_model.specs.Due.{next}
-use Rattle.side_model.specs.declared.fault.ProxyFault.TheVariants as faults
+use Rattle.half_model.specs.declared.items.PeerIn.{PeerIn}
+use Rattle.half_model.specs.declared.items.PeerIn.TheVariants as inputs
+use Rattle.half_model.specs.Jobs.{Done}
+use Rattle.half_model.specs.Turn.{waits_in}
+use Rattle.pair_model.specs.Steps.{Here}
+use Rattle.side_model.specs.declared.fault.ProxyFault.{ProxyFault}
 use Rattle.side_model.specs.declared.fault.ProxyFault.TheVariants.{Memory}
-use Rattle.side_model.specs.Events.{Halt, Rest, Event, Fed, Handed, Up, Came, Asks}
-use Rattle.side_model.specs.Records.{Law, IndexIs}
+use Rattle.side_model.specs.Books.{Book, weight, MOST_WEIGHT, mark_cost, line_cost, cost_read, grown, grow_all, closed, Fit}
+use Rattle.side_model.specs.Calls.{Part, barred}
+use Rattle.side_model.specs.Due.{hear, next, is_free}
+use Rattle.side_model.specs.Events.{Rest, Event, Fed, Handed, Came, Asks}
+use Rattle.side_model.specs.Follows.{Follows}
+use Rattle.side_model.specs.Marks.{mark_of}
+use Rattle.side_model.specs.Shows.{wants_peer}
+use Rattle.side_model.specs.Sound.{Admits}
 use Rattle.side_model.specs.State.{Now}
 use Rattle.side_model.specs.Steps.{step}
-use Rattle.side_model.specs.Trails.{Done, TrailState, step_all, FailsNow, FailsSo, HeavyAtOnce, HeavyThen, Failed, FailedAtOnce, NoMemory, StopsRecording, LacksMemory, TrailAfter, TrailCalls, NotLent, TooHeavyFront, LendsAfter}
-use Rattle.side_model.proofs.Parts.{part_at}
-use Rattle.side_model.proofs.Calms.{up_rests}
-use Rattle.side_model.proofs.RowProofs.{none_after}
-use Rattle.side_model.proofs.TrailParts.{ran, same_weight}
-use Rattle.pair_runs.specs.Linking.{RefusesPiece}
-use Rattle.pair_runs.specs.Moves.{LineInPart}
-use Rattle.pair_runs.specs.Sides.{SideState, fed, asked, seen, side_seen}
-use Rattle.pair_runs.specs.WorkLaws.{RunsOn, FailsInPart, FedFails, CameFails, AsksFails, HandedFails, UpFails, UpLimits, LendsFails, KeptByFault}
-use Rattle.pair_runs.specs.Working.{Works, WorksInPart}
-use Rattle.pair_runs.proofs.Calling.{ok_done, fed_base, came_base, asks_base}
-use Rattle.pair_runs.proofs.Composing.{all_then, joined_then, grows_same, grows_then, may_hear}
-use Rattle.pair_runs.proofs.Ends.{front_same, front_then}
-use Rattle.pair_runs.proofs.Rowing.{row_works}
+use Rattle.side_model.specs.Trails.{TrailState, step_all, FailsNow, FailsSo, HeavyAtOnce, HeavyThen, Failed, FailedAtOnce, NoMemory, StopsRecording, Fails, LacksMemory, TrailAfter, TrailCalls, Begun, LIMIT_TRAIL}
+use Rattle.side_model.proofs.Dues.{due_in, all_rest}
+use Rattle.side_model.proofs.Parts.{part_at, same_part, same_step, FollowsOn, follows_part}
+use Rattle.side_model.proofs.Sounds.{wants_free}
+use Rattle.side_model.proofs.TrailDone.{whole_weighs}
+use Rattle.side_model.proofs.TrailParts.{ran, NotRun, Begins, begins, follows_room, same_weight}
+use Rattle.wl_tables.specs.declared.way.Way.{Way}
+use Rattle.pair_runs.specs.Leaving.{Passes}
+use Rattle.pair_runs.specs.Sides.{Inside, SideState, TOKEN, fed, asked, seen, side_seen}
+use Rattle.pair_runs.specs.Whys.{PassesLimit, Why}
+use Rattle.pair_runs.specs.WorkLaws.{RunsOn, FailsInPart, FedFails, CameFails, AsksFails, HandedFails}
+use Rattle.pair_runs.specs.Working.{Works, InPart, WorksInPart}
+use Rattle.pair_runs.proofs.Calling.{fed_base, fed_here, came_base, asks_base, quiet_still}
+use Rattle.pair_runs.proofs.Composing.{may_hear, works_same, works_then}
+use Rattle.pair_runs.proofs.Reasons.{halts_why, heavy_why, item_heavy, item_bars}
+use Rattle.pair_runs.proofs.Rowing.{row_works, stays_quiet}
+use Rattle.pair_runs.proofs.Showing.{treated_so}
+use Rattle.pair_runs.proofs.Partly.{Nothing, nothing_took, nothing_part}
 
--- ---- in part
+-- ---- where a call came to
 
-pub works_part : (a b : SideState) → Works true a b → WorksInPart a b
-works_part a b w = record {
-  took = w.took;
-  messages = w.inside.messages;
-  bytes = record { rest = b.inside.bytes; is = sym w.inside.bytes };
-  trail = w.trail;
-  order = w.order;
+-- what a call changed up to a state that the records follow, all of which is recorded
+record Reached (half : ℕ) (a : SideState) (new : TrailState) (at : Now) : Type 0 where
+  works : Works true a (seen half at new.book)
+  follows : Follows at (closed new.book)
+  token : at.token ≡ TOKEN
+
+reached_passes : (half : ℕ) (a : SideState) (new : TrailState) (at : Now) (r : Reached half a new at) → Passes at.side r.works.inside.inlet.uses a.inside.objects at.live.tables.objects.tracked a.book.order new.book.order
+reached_passes half a new at r =
+    subst (λ (side : Side). Passes side r.works.inside.inlet.uses a.inside.objects at.live.tables.objects.tracked a.book.order new.book.order) (sym r.works.trail.side ∙ r.follows.tells.side_is) r.works.passes
+
+abbrev in_part : (half : ℕ) (a : SideState) (new : TrailState) (at : Now) → Reached half a new at → InPart a (side_seen half new)
+in_part half a new at r = record {
+  took = r.works.took;
+  messages = r.works.inside.messages;
+  bytes = record { rest = at.live.sending.inlet.bytes; is = sym r.works.inside.inlet.bytes };
+  trail = r.works.trail;
+  order = r.works.order;
 }
 
--- only the records are spoken of
-pub same_part : (a b c : SideState) → WorksInPart a b → c.book ≡ b.book → WorksInPart a c
-same_part a b c w e =
-    subst (λ (book : Book). WorksInPart a (record c { book = book })) (sym e)
-    (record { took = w.took; messages = w.messages; bytes = w.bytes; trail = w.trail; order = w.order })
+reached : (half : ℕ) (a : SideState) (new : TrailState) (s t : Now) (book : Book) (events : List Event) → Works true a (seen half s book) → FollowsOn s book → s.token ≡ TOKEN → Part s events t → new.book ≡ grow_all events s book → Reached half a new t
+reached half a new s t book events w f k part e =
+    let row : Works true a (seen half t (grow_all events s book)) = works_then true a (seen half s book) (seen half t (grow_all events s book)) w (row_works half s t book events f part) in
+    let after : FollowsOn t (grow_all events s book) = follows_part s t book events f part in
+    record {
+      works = subst (λ (b : Book). Works true a (seen half t b)) (sym e) row;
+      follows = subst (λ (b : Book). Follows t (closed b)) (sym e) (follows_room 0 t (grow_all events s book) after.follows);
+      token = (same_part s t events part).token ∙ k;
+    }
 
-pub nothing_part : (a b : SideState) → b.book ≡ a.book → WorksInPart a b
-nothing_part a b e =
-    subst (λ (book : Book). WorksInPart a (record b { book = book })) (sym e)
-    (record { took = []; messages = tt; bytes = record { rest = a.inside.bytes; is = refl }; trail = grows_same a.book.trail; order = front_same a.book.order })
+-- no frame is heard along a row behind which none was to be heard
+quiet_end : (s t : Now) (events : List Event) → hear s ≡ Rest → Part s events t → hear t ≡ Rest
+quiet_end s t [] q p = ap hear p ∙ q
+quiet_end s t (x ∷ xs) q p = quiet_end (step x s) t xs (stays_quiet x s q (due_in s x p.0)) p.1
 
--- ---- what is recorded
+-- ---- a call
 
--- nothing is, or what the call was made for, and then some of the events that are due
-abbrev Recorded : ℕ → Event → TrailState → TrailState → Type 0
-Recorded half event old new =
-    ((side_seen half new).book ≡ (side_seen half old).book)
-    ⊎ WorksInPart (seen half (step event old.now) (grown event old.now (closed old.book))) (side_seen half new)
+-- what is known of a call: what it does at first, and that it may hear frames or hears none
+record Called (half : ℕ) (hears : Bool) (event : Event) (a : SideState) (old : TrailState) : Type 0 where
+  begins : Begins old event
+  token : old.now.token ≡ TOKEN
+  base : Works true a (seen half (step event old.now) (grown event old.now (closed old.book)))
+  may : (hears ≡ true) ⊎ (hear (step event old.now) ≡ Rest)
 
--- what the call was made for is recorded, and some of the events that are due
-some_part : (half : ℕ) (event : Event) (old new : TrailState) (t : Now) (events : List Event) → Part (step event old.now) events t → new.book ≡ grow_all (event ∷ events) old.now (closed old.book)
-    → WorksInPart (seen half (step event old.now) (grown event old.now (closed old.book))) (side_seen half new)
-some_part half event old new t events part e =
-    let begun : Book = grown event old.now (closed old.book) in
-    let a : SideState = seen half (step event old.now) begun in
-    let b : SideState = seen half t (grow_all events (step event old.now) begun) in
-    same_part a b (side_seen half new) (works_part a b (row_works half (step event old.now) t begun events part)) (ap closed e)
+still_may : (hears : Bool) (s t : Now) (events : List Event) → (hears ≡ true) ⊎ (hear s ≡ Rest) → Part s events t → (hears ≡ true) ⊎ (hear t ≡ Rest)
+still_may hears s t events (inl hearing) p = inl hearing
+still_may hears s t events (inr quiet) p = inr (quiet_end s t events quiet p)
 
-some_recorded : (half : ℕ) (event : Event) (old new : TrailState) (t : Now) (events : List Event) → Part (step event old.now) events t → new.book ≡ grow_all (event ∷ events) old.now (closed old.book) → Recorded half event old new
-some_recorded half event old new t events part e = inr (some_part half event old new t events part e)
+reached_by : (half : ℕ) (hears : Bool) (event : Event) (a : SideState) (old new : TrailState) (t : Now) (events : List Event) → Called half hears event a old → Part (step event old.now) events t → new.book ≡ grow_all (event ∷ events) old.now (closed old.book) → Reached half a new t
+reached_by half hears event a old new t events c part e =
+    reached half a new (step event old.now) t (grown event old.now (closed old.book)) events c.base c.begins.after ((same_step event old.now).token ∙ c.token) part e
 
--- what is recorded is a front of the row
-heavy_recorded : (half : ℕ) (event : Event) (old new : TrailState) (events recorded : List Event) (heavy : Event) (more : List Event) (t : Now) → Part (step event old.now) events t
-    → event ∷ events ≡ recorded ++ heavy ∷ more → new.book ≡ grow_all recorded old.now (closed old.book) → Recorded half event old new
-heavy_recorded half event old new events [] heavy more t part row e = inl (ap closed e)
-heavy_recorded half event old new events (first ∷ recorded) heavy more t part row e =
-    let same : first ≡ event = cc in
-    let rest : events ≡ recorded ++ heavy ∷ more = cc in
-    let parts : Part (step event old.now) recorded (step_all recorded (step event old.now)) =
-    (part_at (step event old.now) t recorded (heavy ∷ more) (subst (λ (es : List Event). Part (step event old.now) es t) rest part)).0 in
-    some_recorded half event old new (step_all recorded (step event old.now)) recorded parts (e ∙ ap (λ (it : Event). grow_all (it ∷ recorded) old.now (closed old.book)) same)
+-- the side is that of the records
+as_side : (hears : Bool) (item : Option PeerIn) (fault : ProxyFault) (took : List (List ℕ)) (inside : Inside) (ways : List Way) (book : Book) (s : Now) → Follows s book → Why s.side hears item fault took inside ways book → Why book.trail.side hears item fault took inside ways book
+as_side hears item fault took inside ways book s f why = subst (λ (side : Side). Why side hears item fault took inside ways book) (sym f.tells.side_is) why
 
-alone_recorded : (half : ℕ) (event : Event) (old new : TrailState) (recorded : List Event) (heavy : Event) (more : List Event) → event ∷ [] ≡ recorded ++ heavy ∷ more → new.book ≡ grow_all recorded old.now (closed old.book) → Recorded half event old new
-alone_recorded half event old new [] heavy more row e = inl (ap closed e)
-alone_recorded half event old new (first ∷ []) heavy more row e = absurd cc
-alone_recorded half event old new (first ∷ next ∷ recorded) heavy more row e = absurd cc
+-- it failed at a fault that was due, or for want of memory
+failed_there : (half : ℕ) (hears : Bool) (item : Option PeerIn) (event : Event) (fault : ProxyFault) (a : SideState) (old new : TrailState) → Called half hears event a old → Fails event fault old new → WorksInPart hears item fault a (side_seen half new)
+failed_there half hears item event fault a old new c d =
+    let at : Now = d.stops.last in
+    let r : Reached half a new at = reached_by half hears event a old new at d.events c d.stops.part d.whole.book in
+    let weighs : weight (closed new.book).trail ≤ MOST_WEIGHT =
+    omega (arith, same_weight 0 new.book, ap (λ (b : Book). weight b.trail) d.whole.book, whole_weighs old event c.begins d.events at d.stops.part d.whole.fit) in
+    record {
+      part = in_part half a new at r;
+      why = as_side hears item fault r.works.took a.inside a.book.order (closed new.book) at r.follows (elim d.stops.due [
+        | inl halt ↦ halts_why hears item at (closed new.book) r.follows r.token weighs r.works.took a.inside a.book.order r.works.inside.inlet (reached_passes half a new at r) fault (still_may hears (step event old.now) at d.events c.may d.stops.part) halt
+        | inr memory ↦ subst (λ (x : ProxyFault). Why at.side hears item x r.works.took a.inside a.book.order (closed new.book)) (sym memory) tt
+      ]);
+    }
 
-stops_recorded : (half : ℕ) (event : Event) (old new : TrailState) → RunsOn old → StopsRecording event old new → Recorded half event old new
-stops_recorded half event old new r d = elim (ran event d.answer d.events old.now d.last (r.keeps.runs r.goes_on).fault d.calls) [
-  | inl begun ↦ heavy_recorded half event old new d.events d.recorded d.heavy_event d.more begun.at begun.part d.row d.book
-  | inr not_run ↦ alone_recorded half event old new d.recorded d.heavy_event d.more (sym (ap (λ (es : List Event). event ∷ es) not_run.none) ∙ d.row) d.book
+-- at an event that was due, and too heavy
+heavy_there : (half : ℕ) (hears : Bool) (item : Option PeerIn) (event : Event) (a : SideState) (old new : TrailState) → Called half hears event a old → (d : StopsRecording event old new) (t : Now) → Part (step event old.now) d.events t
+    → (recorded : List Event) → d.events ≡ recorded ++ d.heavy_event ∷ d.more → d.recorded ≡ event ∷ recorded → WorksInPart hears item LIMIT_TRAIL a (side_seen half new)
+heavy_there half hears item event a old new c d t part recorded rest same =
+    let begun : Now = step event old.now in
+    let at : Now = step_all recorded begun in
+    let split : Part begun recorded at × Part at (d.heavy_event ∷ d.more) t = part_at begun t recorded (d.heavy_event ∷ d.more) (subst (λ (es : List Event). Part begun es t) rest part) in
+    let book : new.book ≡ grow_all (event ∷ recorded) old.now (closed old.book) = d.book ∙ ap (λ (es : List Event). grow_all es old.now (closed old.book)) same in
+    let r : Reached half a new at = reached_by half hears event a old new at recorded c split.0 book in
+    let fit : Fit (event ∷ recorded) old.now (closed old.book) = subst (λ (es : List Event). Fit es old.now (closed old.book)) same d.fit in
+    let weighs : weight (grow_all (event ∷ recorded) old.now (closed old.book)).trail ≤ MOST_WEIGHT = whole_weighs old event c.begins recorded at split.0 fit in
+    let heavy : MOST_WEIGHT < weight new.book.trail + mark_cost (mark_of d.heavy_event at) =
+    subst (λ (es : List Event). MOST_WEIGHT < weight new.book.trail + mark_cost (mark_of d.heavy_event (step_all es old.now))) same d.heavy in
+    let less : weight (closed new.book).trail ≤ MOST_WEIGHT = omega (arith, same_weight 0 new.book, ap (λ (b : Book). weight b.trail) book, weighs) in
+    let more : MOST_WEIGHT < weight (closed new.book).trail + mark_cost (mark_of d.heavy_event at) = omega (arith, same_weight 0 new.book, heavy) in
+    record {
+      part = in_part half a new at r;
+      why = as_side hears item LIMIT_TRAIL r.works.took a.inside a.book.order (closed new.book) at r.follows (inl (heavy_why hears item at (closed new.book) r.follows r.token less r.works.took a.inside a.book.order r.works.inside.inlet (reached_passes half a new at r) d.heavy_event split.1.0 more));
+    }
+
+-- at the event from outside
+record HeavyFirst (event : Event) (old new : TrailState) : Type 0 where
+  heavy : MOST_WEIGHT < weight old.book.trail + mark_cost (mark_of event old.now)
+  book : new.book ≡ closed old.book
+
+-- what a call stops at that is too heavy
+stops_there : (half : ℕ) (hears : Bool) (item : Option PeerIn) (event : Event) (a : SideState) (old new : TrailState) → Called half hears event a old → StopsRecording event old new
+    → HeavyFirst event old new ⊎ WorksInPart hears item LIMIT_TRAIL a (side_seen half new)
+stops_there half hears item event a old new c d = by_run (ran event d.answer d.events old.now d.last c.begins.runs.fault d.calls)
+  where
+    first : (recorded : List Event) → d.recorded ≡ recorded → recorded ≡ [] → d.heavy_event ≡ event → HeavyFirst event old new
+    first recorded k none same =
+        let book : new.book ≡ closed old.book = d.book ∙ ap (λ (es : List Event). grow_all es old.now (closed old.book)) (k ∙ none) in
+        let heavy : MOST_WEIGHT < weight new.book.trail + mark_cost (mark_of event old.now) =
+        subst (λ (x : Event). MOST_WEIGHT < weight new.book.trail + mark_cost (mark_of x old.now)) same
+        (subst (λ (es : List Event). MOST_WEIGHT < weight new.book.trail + mark_cost (mark_of d.heavy_event (step_all es old.now))) (k ∙ none) d.heavy) in
+        record { heavy = omega (arith, same_weight 0 old.book, ap (λ (b : Book). weight b.trail) book, heavy); book = book }
+
+    by_row : (events : List Event) → d.events ≡ events → (t : Now) → Part (step event old.now) d.events t → (recorded : List Event) → d.recorded ≡ recorded → event ∷ events ≡ recorded ++ d.heavy_event ∷ d.more
+        → HeavyFirst event old new ⊎ WorksInPart hears item LIMIT_TRAIL a (side_seen half new)
+    by_row events e t part [] k row = inl (first [] k refl (let same : d.heavy_event ≡ event = cc in same))
+    by_row events e t part (x ∷ recorded) k row =
+        let same : x ≡ event = cc in
+        let rest : events ≡ recorded ++ d.heavy_event ∷ d.more = cc in
+        inr (heavy_there half hears item event a old new c d t part recorded (e ∙ rest) (k ∙ ap (λ v. v ∷ recorded) same))
+
+    by_none : (recorded : List Event) → d.recorded ≡ recorded → event ∷ [] ≡ recorded ++ d.heavy_event ∷ d.more → HeavyFirst event old new
+    by_none [] k row = first [] k refl (let same : d.heavy_event ≡ event = cc in same)
+    by_none (x ∷ []) k row = absurd cc
+    by_none (x ∷ y ∷ recorded) k row = absurd cc
+
+    by_run : Begun event d.events old.now d.last ⊎ NotRun old.now d.events d.last → HeavyFirst event old new ⊎ WorksInPart hears item LIMIT_TRAIL a (side_seen half new)
+    by_run (inl r) = by_row d.events refl r.at r.part d.recorded refl d.row
+    by_run (inr n) = inl (by_none d.recorded refl (sym (ap (λ (es : List Event). event ∷ es) n.none) ∙ d.row))
+
+-- for want of memory nothing is recorded, or the event from outside
+lacks_there : (half : ℕ) (hears : Bool) (event : Event) (fault : ProxyFault) (a : SideState) (old new : TrailState) → Called half hears event a old → LacksMemory event fault old new → (new.book ≡ closed old.book) ⊎ InPart a (side_seen half new)
+lacks_there half hears event fault a old new c d = elim d.first [
+  | inl none ↦ inl (d.book ∙ ap (λ (es : List Event). grow_all es old.now (closed old.book)) none)
+  | inr one ↦
+      let r : Reached half a new (step event old.now) = reached_by half hears event a old new (step event old.now) [] c refl (d.book ∙ ap (λ (es : List Event). grow_all es old.now (closed old.book)) one.0) in
+      inr (in_part half a new (step event old.now) r)
 ]
 
-lacks_recorded : (half : ℕ) (event : Event) (fault : ProxyFault) (old new : TrailState) → LacksMemory event fault old new → Recorded half event old new
-lacks_recorded half event fault old new d = elim d.first [
-  | inl none ↦ inl (ap closed (d.book ∙ ap (λ (es : List Event). grow_all es old.now (closed old.book)) none))
-  | inr one ↦ some_recorded half event old new (step event old.now) [] refl (d.book ∙ ap (λ (es : List Event). grow_all es old.now (closed old.book)) one.0)
+no_memory : (hears : Bool) (item : Option PeerIn) (fault : ProxyFault) (a b : SideState) → fault ≡ Memory → InPart a b → WorksInPart hears item fault a b
+no_memory hears item fault a b e part = record { part = part; why = subst (λ (x : ProxyFault). Why b.book.trail.side hears item x part.took a.inside a.book.order b.book) (sym e) tt }
+
+-- ---- a call that brings an item, or nothing
+
+-- what such a call refuses at once, and that of it alone only an item for a pipe has weight
+record Alone (item : Option PeerIn) (event : Event) (a : SideState) (old : TrailState) : Type 0 where
+  same : a.book ≡ closed old.book
+  light : line_cost event old.now.live.here ≡ 0
+  bars : (fault : ProxyFault) → barred event old.now ≡ Some fault → Why old.book.trail.side false item fault [] a.inside a.book.order (closed old.book)
+  heavy : MOST_WEIGHT < weight (closed old.book).trail + mark_cost (mark_of event old.now) → PassesLimit limits.Trail old.book.trail.side item [] a.inside a.book.order (closed old.book)
+
+at_once : (half : ℕ) (item : Option PeerIn) (fault : ProxyFault) (a : SideState) (old new : TrailState) → a.book ≡ closed old.book → new.book ≡ closed old.book → Why old.book.trail.side false item fault [] a.inside a.book.order (closed old.book) → WorksInPart false item fault a (side_seen half new)
+at_once half item fault a old new same e why =
+    let is : (side_seen half new).book ≡ a.book = ap closed e ∙ sym same in
+    let n : Nothing a (side_seen half new) = nothing_took a (side_seen half new) is in
+    record {
+      part = n.part;
+      why = subst (λ (took : List (List ℕ)). Why (side_seen half new).book.trail.side false item fault took a.inside a.book.order (side_seen half new).book) (sym n.none)
+          (subst (λ (book : Book). Why book.trail.side false item fault [] a.inside a.book.order book) (sym (is ∙ same)) why);
+    }
+
+fails_so : (half : ℕ) (item : Option PeerIn) (event : Event) (fault : ProxyFault) (a : SideState) (old new : TrailState) → Called half false event a old → Alone item event a old → FailsSo event fault old new → WorksInPart false item fault a (side_seen half new)
+fails_so half item event fault a old new c k (HeavyAtOnce e d) =
+    absurd (omega (arith, d.heavy, k.light, c.begins.weighs, same_weight 0 old.book))
+fails_so half item event fault a old new c k (HeavyThen e d) = elim (stops_there half false item event a old new c d) [
+  | inl first ↦ at_once half item fault a old new k.same first.book (subst (λ (x : ProxyFault). Why old.book.trail.side false item x [] a.inside a.book.order (closed old.book)) (sym e) (k.heavy (omega (arith, first.heavy, same_weight 0 old.book))))
+  | inr there ↦ subst (λ (x : ProxyFault). WorksInPart false item x a (side_seen half new)) (sym e) there
+]
+fails_so half item event fault a old new c k (Failed d) = failed_there half false item event fault a old new c d
+fails_so half item event fault a old new c k (FailedAtOnce d) = elim d.because [
+  | inl bar ↦ at_once half item fault a old new k.same d.book (k.bars fault bar)
+  | inr memory ↦ at_once half item fault a old new k.same d.book (subst (λ (x : ProxyFault). Why old.book.trail.side false item x [] a.inside a.book.order (closed old.book)) (sym memory) tt)
+]
+fails_so half item event fault a old new c k (NoMemory d) = elim (lacks_there half false event fault a old new c d) [
+  | inl none ↦ at_once half item fault a old new k.same none (subst (λ (x : ProxyFault). Why old.book.trail.side false item x [] a.inside a.book.order (closed old.book)) (sym d.memory) tt)
+  | inr some ↦ no_memory false item fault a (side_seen half new) d.memory some
 ]
 
-so_recorded : (half : ℕ) (event : Event) (fault : ProxyFault) (old new : TrailState) → RunsOn old → FailsSo event fault old new → Recorded half event old new
-so_recorded half event fault old new r (HeavyAtOnce e d) = inl (ap closed d.book)
-so_recorded half event fault old new r (HeavyThen e d) = stops_recorded half event old new r d
-so_recorded half event fault old new r (Failed d) = some_recorded half event old new d.stops.last d.events d.stops.part d.whole.book
-so_recorded half event fault old new r (FailedAtOnce d) = inl (ap closed d.book)
-so_recorded half event fault old new r (NoMemory d) = lacks_recorded half event fault old new d
-
-recorded : (half : ℕ) (event : Event) (fault : ProxyFault) (old new : TrailState) → RunsOn old → TrailCalls event (Err fault) old new → Recorded half event old new
-recorded half event fault old new r calls =
+pub fails_of : (event : Event) (fault : ProxyFault) (old new : TrailState) → RunsOn old → TrailCalls event (Err fault) old new → FailsSo event fault old new
+fails_of event fault old new r calls =
     let d : FailsNow event fault old new = subst (λ (it : Option ProxyFault). TrailAfter it event (Err fault) old new) r.goes_on calls in
-    so_recorded half event fault old new r d.so
+    d.so
 
 -- ---- the calls
 
--- behind what the call was made for
-pub then_part : (a b c : SideState) → Works true a b → WorksInPart b c → WorksInPart a c
-then_part a b c w p = record {
-  took = w.took ++ p.took;
-  messages = all_then IsMessage w.took p.took w.inside.messages p.messages;
-  bytes = record {
-    rest = p.bytes.rest;
-    is =
-        ap (λ (front : List ℕ). front ++ p.bytes.rest) (joined_then w.took p.took)
-        ∙ append_assoc (joined w.took) (joined p.took) p.bytes.rest
-        ∙ ap (λ (rest : List ℕ). joined w.took ++ rest) p.bytes.is
-        ∙ sym w.inside.bytes;
-  };
-  trail = grows_then w.took p.took w.trail p.trail;
-  order = front_then w.order p.order;
-}
+-- no whole message waits where a proxy wants more
+still_waits : (s : Now) → next s ≡ Rest → wants_peer s ≡ true → waits_in s.live.sending ≡ false
+still_waits s rests wants = go (waits_in s.live.sending) refl
+  where
+    free : is_free s.live.sending.owes s.kept.ring ≡ true
+    free = (wants_free s wants).1
+
+    go : (b : Bool) → waits_in s.live.sending ≡ b → waits_in s.live.sending ≡ false
+    go false e = e
+    go true e = absurd (let never : true ≡ false = sym free ∙ treated_so s (all_rest s rests).treats e in cc)
+
+-- an item of a pipe changes no inlet, and others are barred by nothing and weigh nothing
+fed_alone : (half : ℕ) (item : PeerIn) (old : TrailState) → Begins old (Fed item) → old.now.token ≡ TOKEN → Alone (Some item) (Fed item) (fed item (side_seen half old)) old
+fed_alone half item old b token = by_item item b.admits
+  where
+    quiet : hear old.now ≡ Rest
+    quiet = (all_rest old.now b.runs.rests).hears
+
+    by_item : (item : PeerIn) → Admits (Fed item) old.now → Alone (Some item) (Fed item) (fed item (side_seen half old)) old
+    by_item (inputs.Bytes bytes) admits = record {
+      same = refl;
+      light = refl;
+      bars = λ fault bar. absurd cc;
+      heavy = λ heavy. absurd (omega (arith, b.weighs, heavy));
+    }
+    by_item (inputs.Handle handle) admits = record {
+      same = refl;
+      light = refl;
+      bars = λ fault bar. absurd cc;
+      heavy = λ heavy. absurd (omega (arith, b.weighs, heavy));
+    }
+    by_item (inputs.Note note) admits = record {
+      same = refl;
+      light = refl;
+      bars = λ fault bar. absurd cc;
+      heavy = λ heavy. absurd (omega (arith, b.weighs, heavy));
+    }
+    by_item (inputs.Pipe pipe) admits = record {
+      same = refl;
+      light = refl;
+      bars = λ fault bar.
+          as_side false (Some (inputs.Pipe pipe)) fault [] (side_seen half old).inside (side_seen half old).book.order (closed old.book) old.now b.follows.follows
+          (item_bars old.now (closed old.book) b.follows.follows token b.weighs quiet (side_seen half old).inside (side_seen half old).book.order refl (still_waits old.now b.runs.rests) admits.0 (inputs.Pipe pipe) fault bar);
+      heavy = λ heavy.
+          as_side false (Some (inputs.Pipe pipe)) LIMIT_TRAIL [] (side_seen half old).inside (side_seen half old).book.order (closed old.book) old.now b.follows.follows
+          (inr (item_heavy old.now (closed old.book) b.follows.follows token b.weighs quiet (side_seen half old).inside (side_seen half old).book.order refl (still_waits old.now b.runs.rests) (inputs.Pipe pipe) heavy));
+    }
 
 pub fed_fails : FedFails
-fed_fails half item fault old new r calls = elim (recorded half (Fed item) fault old new r calls) [
-  | inl none ↦ nothing_part (fed item (side_seen half old)) (side_seen half new) none
-  | inr some ↦ then_part (fed item (side_seen half old)) (seen half (step (Fed item) old.now) (grown (Fed item) old.now (closed old.book))) (side_seen half new) (may_hear _ _ (fed_base half item old.now old.book)) some
-]
-
--- a piece that is not read is refused
-came_so : (half : ℕ) (piece : List ℕ) (fault : ProxyFault) (old new : TrailState) → RunsOn old → FailsSo (Came piece) fault old new
-    → FailsInPart fault (side_seen half old) (seen half (step (Came piece) old.now) (grown (Came piece) old.now (closed old.book))) (side_seen half new)
-came_so half piece fault old new r (HeavyAtOnce e d) = inl (inl e, nothing_part (side_seen half old) (side_seen half new) (ap closed d.book))
-came_so half piece fault old new r (HeavyThen e d) = elim (stops_recorded half (Came piece) old new r d) [
-  | inl none ↦ inl (inl e, nothing_part (side_seen half old) (side_seen half new) none)
-  | inr some ↦ inr some
-]
-came_so half piece fault old new r (Failed d) = inr (some_part half (Came piece) old new d.stops.last d.events d.stops.part d.whole.book)
-came_so half piece fault old new r (FailedAtOnce d) = elim d.because [
-  | inl bar ↦ absurd cc
-  | inr memory ↦ inl (inr memory, nothing_part (side_seen half old) (side_seen half new) (ap closed d.book))
-]
-came_so half piece fault old new r (NoMemory d) = elim d.first [
-  | inl none ↦ inl (inr d.memory, nothing_part (side_seen half old) (side_seen half new) (ap closed (d.book ∙ ap (λ (es : List Event). grow_all es old.now (closed old.book)) none)))
-  | inr one ↦ inr (some_part half (Came piece) old new (step (Came piece) old.now) [] refl (d.book ∙ ap (λ (es : List Event). grow_all es old.now (closed old.book)) one.0))
-]
-
-pub came_fails : CameFails
-came_fails half piece here fault old new r up calls =
-    let d : FailsNow (Came piece) fault old new = subst (λ (it : Option ProxyFault). TrailAfter it (Came piece) (Err fault) old new) r.goes_on calls in
-    subst (λ (a : SideState). FailsInPart fault (side_seen half old) a (side_seen half new)) (came_base half piece here old.now old.book old.now.live.here refl up) (came_so half piece fault old new r d.so)
+fed_fails half item fault old new r token admits calls =
+    let b : Begins old (Fed item) = begins old (Fed item) r.goes_on r.keeps admits in
+    let c : Called half false (Fed item) (fed item (side_seen half old)) old = record {
+      begins = b;
+      token = token;
+      base = may_hear _ _ (fed_base half item old.now old.book);
+      may = inr (quiet_still (Fed item) old.now b.runs.rests (fed_here item old.now));
+    } in
+    fails_so half (Some item) (Fed item) fault (fed item (side_seen half old)) old new c (fed_alone half item old b token) (fails_of (Fed item) fault old new r calls)
 
 pub asks_fails : AsksFails
-asks_fails half reason fault old new r calls = elim (recorded half (Asks reason) fault old new r calls) [
-  | inl none ↦ nothing_part (asked (side_seen half old)) (side_seen half new) none
-  | inr some ↦ subst (λ (a : SideState). WorksInPart a (side_seen half new)) (asks_base half reason old.now old.book old.now.kept.closing refl) some
-]
+unfolding step
+asks_fails half reason fault old new r token admits calls =
+    let b : Begins old (Asks reason) = begins old (Asks reason) r.goes_on r.keeps admits in
+    let c : Called half false (Asks reason) (asked (side_seen half old)) old = record {
+      begins = b;
+      token = token;
+      base = subst (λ (a : SideState). Works true a (seen half (step (Asks reason) old.now) (grown (Asks reason) old.now (closed old.book))))
+          (asks_base half reason old.now old.book old.now.kept.closing refl) (works_same true (seen half (step (Asks reason) old.now) (grown (Asks reason) old.now (closed old.book))));
+      may = inr (quiet_still (Asks reason) old.now b.runs.rests refl);
+    } in
+    fails_so half None (Asks reason) fault (asked (side_seen half old)) old new c
+    (record { same = refl; light = refl; bars = λ fault bar. absurd cc; heavy = λ heavy. absurd (omega (arith, b.weighs, heavy)) }) (fails_of (Asks reason) fault old new r calls)
+
+-- what waits inside is the same before a copy is handed back
+handed_same : (half : ℕ) (done : Done) (s : Now) (book : Book) (fault : ProxyFault) (b : SideState) → WorksInPart false None fault (seen half (step (Handed done) s) (grown (Handed done) s (closed book))) b → WorksInPart false None fault (seen half s book) b
+unfolding step
+handed_same half done s book fault b w = record {
+  part = record { took = w.part.took; messages = w.part.messages; bytes = w.part.bytes; trail = w.part.trail; order = w.part.order };
+  why = w.why;
+}
 
 pub handed_fails : HandedFails
 unfolding step
-handed_fails half done fault old new r calls = elim (recorded half (Handed done) fault old new r calls) [
-  | inl none ↦ nothing_part (side_seen half old) (side_seen half new) none
-  | inr some ↦ record { took = some.took; messages = some.messages; bytes = some.bytes; trail = some.trail; order = some.order }
-]
+handed_fails half done fault old new r token admits calls =
+    let b : Begins old (Handed done) = begins old (Handed done) r.goes_on r.keeps admits in
+    let a : SideState = seen half (step (Handed done) old.now) (grown (Handed done) old.now (closed old.book)) in
+    let c : Called half false (Handed done) a old = record { begins = b; token = token; base = works_same true a; may = inr (quiet_still (Handed done) old.now b.runs.rests refl) } in
+    handed_same half done old.now old.book fault (side_seen half new)
+    (fails_so half None (Handed done) fault a old new c
+    (record { same = refl; light = refl; bars = λ fault bar. absurd cc; heavy = λ heavy. absurd (omega (arith, b.weighs, heavy)) }) (fails_of (Handed done) fault old new r calls))
 
--- ---- a connection
-
--- nothing is due behind a connection that comes up
-up_alone : (connection : ℕ) (old : TrailState) (t : Now) (events : List Event) → RunsOn old → old.now.live.here ≡ None → Part (step (Up connection) old.now) events t → events ≡ []
-up_alone connection old t events r up part = none_after (step (Up connection) old.now) t events (up_rests old.now connection up (r.keeps.runs r.goes_on).rests) part
-
-up_one : (half connection : ℕ) (old new : TrailState) → new.book ≡ grow_all (Up connection ∷ []) old.now (closed old.book) → LineInPart connection (side_seen half old) (side_seen half new)
-up_one half connection old new e = inr (ap closed e)
-
-up_row : (half connection : ℕ) (old new : TrailState) (events recorded : List Event) (heavy : Event) (more : List Event) → events ≡ [] → Up connection ∷ events ≡ recorded ++ heavy ∷ more → new.book ≡ grow_all recorded old.now (closed old.book)
-    → LineInPart connection (side_seen half old) (side_seen half new)
-up_row half connection old new events [] heavy more none row e = inl (ap closed e)
-up_row half connection old new events (first ∷ []) heavy more none row e = absurd (let never : [] ≡ heavy ∷ more = sym none ∙ cc in cc)
-up_row half connection old new events (first ∷ next ∷ recorded) heavy more none row e = absurd (let never : [] ≡ next ∷ (recorded ++ heavy ∷ more) = sym none ∙ cc in cc)
-
-up_so : (half connection : ℕ) (fault : ProxyFault) (old new : TrailState) → RunsOn old → old.now.live.here ≡ None → FailsSo (Up connection) fault old new → LineInPart connection (side_seen half old) (side_seen half new)
-up_so half connection fault old new r up (HeavyAtOnce e d) = inl (ap closed d.book)
-up_so half connection fault old new r up (HeavyThen e d) = elim (ran (Up connection) d.answer d.events old.now d.last (r.keeps.runs r.goes_on).fault d.calls) [
-  | inl begun ↦ up_row half connection old new d.events d.recorded d.heavy_event d.more (up_alone connection old begun.at d.events r up begun.part) d.row d.book
-  | inr not_run ↦ up_row half connection old new d.events d.recorded d.heavy_event d.more not_run.none d.row d.book
-]
-up_so half connection fault old new r up (Failed d) =
-    up_one half connection old new (d.whole.book ∙ ap (λ (es : List Event). grow_all (Up connection ∷ es) old.now (closed old.book)) (up_alone connection old d.stops.last d.events r up d.stops.part))
-up_so half connection fault old new r up (FailedAtOnce d) = inl (ap closed d.book)
-up_so half connection fault old new r up (NoMemory d) = elim d.first [
-  | inl none ↦ inl (ap closed (d.book ∙ ap (λ (es : List Event). grow_all es old.now (closed old.book)) none))
-  | inr one ↦ up_one half connection old new (d.book ∙ ap (λ (es : List Event). grow_all es old.now (closed old.book)) one.0)
-]
-
-pub up_fails : UpFails
-up_fails half connection fault old new r up calls =
-    let d : FailsNow (Up connection) fault old new = subst (λ (it : Option ProxyFault). TrailAfter it (Up connection) (Err fault) old new) r.goes_on calls in
-    up_so half connection fault old new r up d.so
-
--- ---- room for the front
-
-pub lends_fails : LendsFails
-lends_fails half fault old new r lends =
-    let d : NotLent fault old new = subst (λ (it : Option ProxyFault). LendsAfter it (Err fault) old new) r.goes_on lends in
-    (because d.because, ap (λ (s : Now). seen half s new.book) d.now ∙ ap (λ (book : Book). seen half old.now book) d.book)
+-- a piece that is not read is refused
+came_so : (half : ℕ) (piece : List ℕ) (here : Here) (fault : ProxyFault) (old new : TrailState) → Begins old (Came piece) → old.now.token ≡ TOKEN → old.now.live.here ≡ Some here → FailsSo (Came piece) fault old new
+    → FailsInPart (length piece) fault (side_seen half old) (seen half (step (Came piece) old.now) (grown (Came piece) old.now (closed old.book))) (side_seen half new)
+came_so half piece here fault old new b token up why = by_why why
   where
-    because : TooHeavyFront fault old ⊎ (fault ≡ Memory) → RefusesPiece fault
-    because (inl heavy) = inl heavy.0
-    because (inr memory) = inr memory
+    a : SideState
+    a = seen half (step (Came piece) old.now) (grown (Came piece) old.now (closed old.book))
 
--- ---- records of a side that has failed
+    c : Called half true (Came piece) a old
+    c = record { begins = b; token = token; base = works_same true a; may = inl refl }
 
-index_room : (fault : Option ProxyFault) (book : Book) → IndexIs fault book.trail → IndexIs fault (closed book).trail
-index_room None book h = tt
-index_room (Some (faults.Frame connection place cause)) book h = tt
-index_room (Some (faults.Peer index cause)) book h = h
-index_room (Some (faults.Limit which)) book h = tt
-index_room (Some Memory) book h = tt
+    refused : new.book ≡ closed old.book → (fault ≡ LIMIT_TRAIL) × (MOST_WEIGHT < weight old.book.trail + length piece) ⊎ (fault ≡ Memory) → FailsInPart (length piece) fault (side_seen half old) a (side_seen half new)
+    refused e d = inl (
+      elim d [
+        | inl heavy ↦ inl (heavy.0, omega (arith, heavy.1, same_weight 0 new.book, ap (λ (book : Book). weight book.trail) e, same_weight 0 old.book))
+        | inr memory ↦ inr memory
+      ],
+      nothing_part (side_seen half old) (side_seen half new) (ap closed e),
+    )
 
-law_closed : (side : Side) (token : List ℕ) (book : Book) (fault : Option ProxyFault) → Law side token book fault → Law side token (closed book) fault
-law_closed side token book fault h = record {
-  story = h.story;
-  tells = record { side_is = h.tells.side_is; taken = h.tells.taken; made = h.tells.made; copies = h.tells.copies; accepted = h.tells.accepted; acknowledged = h.tells.acknowledged; order = h.tells.order };
-  log = h.log;
-  stop = h.stop;
-  wire = h.wire;
-  heard = h.heard;
-  stops = h.stops;
-  index = index_room fault book h.index;
-  weighs = omega (arith, same_weight 0 book, h.weighs);
-}
+    by_why : FailsSo (Came piece) fault old new → FailsInPart (length piece) fault (side_seen half old) a (side_seen half new)
+    by_why (HeavyAtOnce e d) = refused d.book (inl (e, omega (arith, d.heavy, ap (λ (it : Option Here). cost_read piece it) up)))
+    by_why (HeavyThen e d) = elim (stops_there half true None (Came piece) a old new c d) [
+      | inl first ↦ absurd (omega (arith, first.heavy, b.weighs, same_weight 0 old.book))
+      | inr there ↦ inr (subst (λ (x : ProxyFault). WorksInPart true None x a (side_seen half new)) (sym e) there)
+    ]
+    by_why (Failed d) = inr (failed_there half true None (Came piece) fault a old new c d)
+    by_why (FailedAtOnce d) = elim d.because [
+      | inl bar ↦ absurd cc
+      | inr memory ↦ refused d.book (inr memory)
+    ]
+    by_why (NoMemory d) = elim (lacks_there half true (Came piece) fault a old new c d) [
+      | inl none ↦ refused none (inr d.memory)
+      | inr some ↦ inr (no_memory true None fault a (side_seen half new) d.memory some)
+    ]
 
-pub kept_by_fault : KeptByFault
-kept_by_fault half fault t k e token =
-    subst (λ (it : List ℕ). Law t.now.side it (closed t.book) (Some fault)) token
-    (subst (λ (it : Option ProxyFault). Law t.now.side t.now.token (closed t.book) it) e (law_closed t.now.side t.now.token t.book t.fault k.law))
-
--- ---- the greatest connection
-
-few_by : (b : Bool) (connection : ℕ) (result : Result Unit ProxyFault) (events : List Event) (old last : Now) → nat_lt MOST_CONNECTIONS connection ≡ b → result ≡ Ok tt
-    → CallsBarred (if b then Some (faults.Limit Connections) else None) (Up connection) result events old last → connection ≤ MOST_CONNECTIONS
-few_by true connection result events old last e good calls = absurd (let never : Ok tt ≡ Err (faults.Limit Connections) = sym good ∙ calls.answers in cc)
-few_by false connection result events old last e good calls = omega (arith, ltb-false MOST_CONNECTIONS connection e)
-
-up_few : (connection : ℕ) (old new : TrailState) → RunsOn old → TrailCalls (Up connection) (Ok tt) old new → connection ≤ MOST_CONNECTIONS
-up_few connection old new r calls =
-    let d : Done (Up connection) old new = ok_done (Up connection) old new r.goes_on calls in
-    few_by (nat_lt MOST_CONNECTIONS connection) connection (Ok tt) d.events old.now d.last refl refl
-    (subst (λ (it : Option ProxyFault). CallsAfter it (Up connection) (Ok tt) d.events old.now d.last) (r.keeps.runs r.goes_on).fault d.calls)
-
-many_by : (b : Bool) (connection : ℕ) → nat_lt MOST_CONNECTIONS connection ≡ b → (if b then Some (faults.Limit Connections) else None) ≡ Some (faults.Limit Connections) → MOST_CONNECTIONS < connection
-many_by true connection e d = ltb-true MOST_CONNECTIONS connection e
-many_by false connection e d = absurd cc
-
-up_many : (connection : ℕ) (fault : ProxyFault) (old new : TrailState) → RunsOn old → old.now.live.here ≡ None → fault ≡ faults.Limit Connections → FailsSo (Up connection) fault old new → MOST_CONNECTIONS < connection
-up_many connection fault old new r up is (HeavyAtOnce e d) = absurd (let never : faults.Limit Connections ≡ faults.Limit Trail = sym is ∙ e in cc)
-up_many connection fault old new r up is (HeavyThen e d) = absurd (let never : faults.Limit Connections ≡ faults.Limit Trail = sym is ∙ e in cc)
-up_many connection fault old new r up is (Failed d) = elim d.stops.due [
-  | inl halt ↦
-      let none : d.events ≡ [] = up_alone connection old d.stops.last d.events r up d.stops.part in
-      let same : d.stops.last ≡ step (Up connection) old.now = subst (λ (es : List Event). Part (step (Up connection) old.now) es d.stops.last) none d.stops.part in
-      absurd (let never : Halt fault ≡ Rest = sym halt ∙ ap next same ∙ up_rests old.now connection up (r.keeps.runs r.goes_on).rests in cc)
-  | inr memory ↦ absurd (let never : faults.Limit Connections ≡ Memory = sym is ∙ memory in cc)
-]
-up_many connection fault old new r up is (FailedAtOnce d) = elim d.because [
-  | inl bar ↦ many_by (nat_lt MOST_CONNECTIONS connection) connection refl (bar ∙ ap (λ (it : ProxyFault). Some it) is)
-  | inr memory ↦ absurd (let never : faults.Limit Connections ≡ Memory = sym is ∙ memory in cc)
-]
-up_many connection fault old new r up is (NoMemory d) = absurd (let never : faults.Limit Connections ≡ Memory = sym is ∙ d.memory in cc)
-
-pub up_limits : UpLimits
-up_limits = record {
-  good = up_few;
-  bad = λ connection old new r up calls.
-      let d : FailsNow (Up connection) (faults.Limit Connections) old new = subst (λ (it : Option ProxyFault). TrailAfter it (Up connection) (Err (faults.Limit Connections)) old new) r.goes_on calls in
-      up_many connection (faults.Limit Connections) old new r up refl d.so;
-}
+pub came_fails : CameFails
+came_fails half piece here fault old new r token admits up calls =
+    let b : Begins old (Came piece) = begins old (Came piece) r.goes_on r.keeps admits in
+    subst (λ (a : SideState). FailsInPart (length piece) fault (side_seen half old) a (side_seen half new)) (came_base half piece here old.now old.book old.now.live.here refl up)
+    (came_so half piece here fault old new b token up (fails_of (Came piece) fault old new r calls))

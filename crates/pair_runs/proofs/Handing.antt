@@ -22,7 +22,8 @@ use Rattle.side_model.proofs.Dues.{AllRest, all_rest, rests, groups_none}
 use Rattle.pair_runs.specs.Sides.{SideState, awaited, loaded_by, loaded_in, words_in, seen, side_seen, all_loaded}
 use Rattle.pair_runs.specs.WorkLaws.{LentIs, HandedIs, HandedWorks, NoneOut, GaveWorks}
 use Rattle.pair_runs.specs.Working.{Works}
-use Rattle.pair_runs.proofs.Calling.{ran_by, quiet_work, quiet_still, still_is}
+use Rattle.pair_runs.proofs.Tracking.{passes_same}
+use Rattle.pair_runs.proofs.Calling.{ran_by, after_event, quiet_work, quiet_still, still_is}
 use Rattle.pair_runs.proofs.Composing.{takes_same}
 use Rattle.pair_runs.proofs.Ends.{front_same}
 
@@ -183,9 +184,9 @@ handed_all half s book (Some owed) jobs e = ap (λ (back : Bool). record (seen h
 
 pub handed_works : HandedWorks
 unfolding step
-handed_works half done old new r e calls =
+handed_works half done old new r admits e calls =
     subst (λ (a : SideState). Works false a (side_seen half new)) (handed_all half old.now old.book old.now.live.sending.owes (handed done old.now.kept.jobs) e)
-    (quiet_work half (Handed done) old new (quiet_still (Handed done) old.now (r.keeps.runs r.goes_on).rests refl) (ran_by (Handed done) old new r calls))
+    (quiet_work half (Handed done) old new (after_event (Handed done) old r admits) (quiet_still (Handed done) old.now (r.keeps.runs r.goes_on).rests refl) (ran_by (Handed done) old new r calls))
 
 -- ---- none is out
 
@@ -231,6 +232,7 @@ given_works given a = record {
   awaits = record { stay = λ e. (refl, refl); begin = λ n. absurd (n refl) };
   trail = record { side = refl; taken = sym (append-nil a.book.trail.taken); made = front_same a.book.trail.made; copies = front_same a.book.trail.copies; lines = refl; accepted = omega arith };
   order = front_same a.book.order;
+  passes = passes_same a.book.trail.side a.inside.objects a.book.order;
   silent = λ e. absurd cc;
 }
 

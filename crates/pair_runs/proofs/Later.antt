@@ -5,12 +5,13 @@ use Rattle.std.specs.List.{AllByRecursion}
 use Rattle.plain_lists.specs.Fronts.{IsFront}
 use Rattle.wl_wire.specs.Wire.{first, joined, IsMessage}
 use Rattle.wl_wire.proofs.FrontLemmas.{first-message}
+use Rattle.half_model.specs.Inlet.{Inlet}
 use Rattle.half_model.specs.Turn.{stands_in}
 use Rattle.half_model.specs.declared.items.PeerIn.{PeerIn}
 use Rattle.side_model.specs.Books.{TrailRecord}
 use Rattle.pair_runs.specs.Kept.{waits}
 use Rattle.pair_runs.specs.Sides.{Inside, SideState, is_free, wants, fed, asked, on_rows}
-use Rattle.pair_runs.specs.Working.{Grows, Works, WorksInPart}
+use Rattle.pair_runs.specs.Working.{Grows, Works, InPart}
 use Rattle.pair_runs.proofs.Ends.{front_then}
 use Rattle.pair_runs.proofs.Walking.{Steps}
 
@@ -56,10 +57,10 @@ grown_by took a b g o = record {
 }
 
 -- nothing is taken where nothing whole waits
-none_taken : (took : List (List ℕ)) (inside : Inside) (rest : List ℕ) → AllByRecursion IsMessage took → inside.bytes ≡ joined took ++ rest → stands_in (first inside.bytes) ≡ false → took ≡ []
+none_taken : (took : List (List ℕ)) (inside : Inside) (rest : List ℕ) → AllByRecursion IsMessage took → inside.inlet.bytes ≡ joined took ++ rest → stands_in (first inside.inlet.bytes) ≡ false → took ≡ []
 none_taken [] inside rest h e w = refl
 none_taken (message ∷ took) inside rest h e w =
-    let stands : first inside.bytes ≡ Ok (Some message) = ap first (e ∙ append_assoc message (joined took) rest) ∙ first-message message (joined took ++ rest) h.0 in
+    let stands : first inside.inlet.bytes ≡ Ok (Some message) = ap first (e ∙ append_assoc message (joined took) rest) ∙ first-message message (joined took ++ rest) h.0 in
     absurd (let never : true ≡ false = sym (ap stands_in stands) ∙ w in cc)
 
 same_taken : (took : List (List ℕ)) (a b : TrailRecord) → Grows took a b → took ≡ [] → b.taken ≡ a.taken
@@ -69,12 +70,12 @@ works_later : (hears : Bool) (a b : SideState) → Works hears a b → Later a b
 works_later hears a b w = record {
   grown = grown_by w.took a b w.trail w.order;
   shut = λ s.
-      let same : b.inside ≡ a.inside = w.inside.none (none_taken w.took a.inside b.inside.bytes w.inside.messages w.inside.bytes s.still) in
-      record { said = ap (λ (inside : Inside). inside.asked) same ∙ s.said; still = ap (λ (inside : Inside). stands_in (first inside.bytes)) same ∙ s.still };
-  none = λ s. same_taken w.took a.book.trail b.book.trail w.trail (none_taken w.took a.inside b.inside.bytes w.inside.messages w.inside.bytes s.still);
+      let same : b.inside.inlet ≡ a.inside.inlet = w.inside.none (none_taken w.took a.inside b.inside.inlet.bytes w.inside.messages w.inside.inlet.bytes s.still) in
+      record { said = w.inside.asked ∙ s.said; still = ap (λ (inlet : Inlet). stands_in (first inlet.bytes)) same ∙ s.still };
+  none = λ s. same_taken w.took a.book.trail b.book.trail w.trail (none_taken w.took a.inside b.inside.inlet.bytes w.inside.messages w.inside.inlet.bytes s.still);
 }
 
-part_later : (a b : SideState) → WorksInPart a b → LaterPart a b
+part_later : (a b : SideState) → InPart a b → LaterPart a b
 part_later a b w = record {
   grown = grown_by w.took a b w.trail w.order;
   none = λ s. same_taken w.took a.book.trail b.book.trail w.trail (none_taken w.took a.inside w.bytes.rest w.messages (sym w.bytes.is) s.still);

@@ -1,6 +1,7 @@
 pub mod Ends
 pub mod Composing
 pub mod Turning
+pub mod Tracking
 pub mod Rowing
 pub mod Calling
 pub mod Weights
@@ -12,7 +13,11 @@ pub mod Wrongs
 pub mod Lines
 pub mod Tying
 pub mod Agreeing
+pub mod Refusals
+pub mod Reasons
+pub mod Partly
 pub mod Failing
+pub mod Refusing
 pub mod Handing
 pub mod Bringing
 pub mod Receiving
@@ -25,3 +30,8 @@ pub mod Allowing
 pub mod Stopping
 pub mod Staying
 pub mod Completing
+pub mod Feeding
+pub mod Causing
+pub mod Proceeding
+pub mod Blaming
+pub mod WrongFaulting

@@ -23,7 +23,7 @@ use Rattle.pair_runs.specs.WorkLaws.{RunsOn}
 use Rattle.pair_runs.specs.Working.{Works}
 use Rattle.pair_runs.proofs.Calling.{Ran, ran_by, quiet_still, fed_here}
 use Rattle.pair_runs.proofs.Composing.{works_then}
-use Rattle.pair_runs.proofs.Failing.{then_part}
+use Rattle.pair_runs.proofs.Partly.{then_part, then_works}
 use Rattle.pair_runs.proofs.Rowing.{stays_quiet}
 
 pub works_more : WorksMore
@@ -46,7 +46,8 @@ on_same change hears a b w = record {
     accepted = w.trail.accepted;
   };
   order = w.order;
-  silent = λ e. record { accepted = (w.silent e).accepted; acknowledged = (w.silent e).acknowledged; given = (w.silent e).given; order = (w.silent e).order };
+  passes = record { order = w.passes.order; tracked = w.passes.tracked; uses_are = w.passes.uses_are; ways_are = w.passes.ways_are };
+  silent = λ e. record { accepted = (w.silent e).accepted; acknowledged = (w.silent e).acknowledged; given = (w.silent e).given; order = (w.silent e).order; objects = (w.silent e).objects };
 }
 
 last_read : (one other : List ℕ) (rows : List Line) → on_last (with_read other) (on_last (with_read one) rows) ≡ on_last (with_read (one ++ other)) rows
@@ -74,9 +75,10 @@ reads_more one other a b c h k =
 
 pub part_more : PartMore
 part_more = record {
-  works = then_part;
-  reads = λ one other a b c h p.
-      then_part (read (one ++ other) a) (read other b) c
+  part = then_part;
+  works = λ fault a b c w p. then_works true fault a b c w p;
+  reads = λ fault one other a b c h p.
+      then_works true fault (read (one ++ other) a) (read other b) c
       (subst (λ (x : SideState). Works true x (read other b)) (read_twice one other a) (on_same (on_last (with_read other)) true (read one a) b h)) p;
 }
 

@@ -154,7 +154,7 @@ none_waits side it g free = go (waits it) refl
     go true e = absurd (let never : true ≡ false = sym free ∙ g.treated e in cc)
 
 -- nothing whole is in bytes at whose front nothing whole stands
-cut_none : (bytes : List ℕ) (front : Result (Option (List ℕ)) WireFault) → first bytes ≡ front → stands_in front ≡ false → cut bytes ≡ []
+pub cut_none : (bytes : List ℕ) (front : Result (Option (List ℕ)) WireFault) → first bytes ≡ front → stands_in front ≡ false → cut bytes ≡ []
 cut_none bytes (Ok None) e w = cut-waits bytes e
 cut_none bytes (Ok (Some message)) e w = absurd cc
 cut_none bytes (Err fault) e w = absurd cc
@@ -180,10 +180,10 @@ all_or_shut side most s put g k l (b, (fault, all, is, stops)) copies known h = 
     whole : wire_at side s ≡ [] → length it.book.trail.taken ≡ length (cut put)
     whole none =
         let taken : List (List ℕ) = it.book.trail.taken in
-        let rest : List ℕ = it.inside.bytes ++ bytes_in (wire_at side s) in
-        let inside : rest ≡ it.inside.bytes = ap (λ (wire : List PeerIn). it.inside.bytes ++ bytes_in wire) none ∙ append-nil it.inside.bytes in
+        let rest : List ℕ = it.inside.inlet.bytes ++ bytes_in (wire_at side s) in
+        let inside : rest ≡ it.inside.inlet.bytes = ap (λ (wire : List PeerIn). it.inside.inlet.bytes ++ bytes_in wire) none ∙ append-nil it.inside.inlet.bytes in
         let cuts : Cuts (joined taken ++ rest) (taken ++ cut rest) (cut_rest rest) = cuts-append taken (joined taken) [] rest (cut rest) (cut_rest rest) (messages-cut taken (all_plain taken h.whole)) (cut-cuts rest) in
-        let nothing : cut rest ≡ [] = ap cut inside ∙ cut_none it.inside.bytes (first it.inside.bytes) refl still in
+        let nothing : cut rest ≡ [] = ap cut inside ∙ cut_none it.inside.inlet.bytes (first it.inside.inlet.bytes) refl still in
         let same : cut put ≡ taken = sym (ap cut h.bytes) ∙ (cuts-cut (joined taken ++ rest) (taken ++ cut rest) (cut_rest rest) cuts).0 ∙ ap (λ (xs : List (List ℕ)). taken ++ xs) nothing ∙ append-nil taken in
         sym (ap length same)
 

@@ -3,10 +3,14 @@ use Rattle.std.proofs.Common.{◌≡◌, ℕ, List, [], ◌∷◌, ◌++◌, map
 use Rattle.std.proofs.lemmas.List.{append-nil}
 use Rattle.std.specs.Prelude.{sum_by}
 use Rattle.wp_outside.specs.declared.kinds.Side.{Side}
-use Rattle.transfer_frames.specs.declared.frame.Frame.{Frame}
+use Rattle.wl_tables.specs.declared.way.Way.{Way}
+use Rattle.wl_tables.specs.Ways.{own_way}
+use Rattle.wl_objects.specs.Entries.{Tracked}
 use Rattle.half_model.specs.Group.{Owed}
 use Rattle.half_model.specs.Jobs.{Job, all_back}
-use Rattle.half_model.specs.Log.{Mark}
+use Rattle.half_model.specs.Content.{heard}
+use Rattle.half_model.specs.Log as marks
+use Rattle.half_model.specs.Log.{Mark, LogState, log_next}
 use Rattle.half_model.specs.Turn as turns
 use Rattle.half_model.specs.Turn.{Turn, turn, Treated, MadeGroup, made_of, group_due}
 use Rattle.half_model.specs.TurnLaws.{IsTaken}
@@ -16,16 +20,20 @@ use Rattle.side_model.specs.Books.{Book, marked_trail, marked_order, grown, grow
 use Rattle.side_model.specs.Calls.{Part}
 use Rattle.side_model.specs.Due.{hear, is_free}
 use Rattle.side_model.specs.Events.{Event, Heard, Chose, Do, Rest}
+use Rattle.side_model.specs.Follows.{Follows}
 use Rattle.side_model.specs.Marks.{mark_taken, mark_grouped, mark_ended}
 use Rattle.side_model.specs.Shows.{is_open}
 use Rattle.side_model.specs.State.{Now, Closing, Open, Asked, Made}
 use Rattle.side_model.specs.Steps.{step, took, grouped, ended}
 use Rattle.side_model.proofs.Dues.{DueIn, InHear, InGroup, InTreat, InEnd, InChoose, due_in, FrameDue, frame_due, GroupDue, group_is_due, TurnDue, turn_due, EndDue, end_is_due, ChoiceDue, choice_due, is_quiet, hears_none}
+use Rattle.side_model.proofs.Parts.{FollowsOn, follows_part}
 use Rattle.side_model.proofs.Quiets.{quiet_worked, quiet_chose}
+use Rattle.pair_runs.specs.Leaving.{Use, use_of, Passes}
 use Rattle.pair_runs.specs.Sides.{awaited, loaded_in, words_in, seen}
 use Rattle.pair_runs.specs.Working.{Works}
-use Rattle.pair_runs.proofs.Composing.{takes_same, works_same, works_then, may_hear}
-use Rattle.pair_runs.proofs.Ends.{front_same, front_more, end_same, end_map}
+use Rattle.pair_runs.proofs.Composing.{leaves_same, takes_same, works_same, works_then, may_hear}
+use Rattle.pair_runs.proofs.Ends.{front_same, front_more}
+use Rattle.pair_runs.proofs.Tracking.{passes_same, heard_passes, took_passes}
 use Rattle.pair_runs.proofs.Turning.{LeftBy, left_by}
 
 -- the records with one more mark
@@ -35,16 +43,24 @@ marked_book side mark book = record {
   order = marked_order side mark book.order;
 }
 
+-- the side is that of the records
+pub by_side : (s : Now) (book : Book) → Follows s book → (uses : List Use) (objects after : Tracked) (ways more : List Way) → Passes s.side uses objects after ways more → Passes book.trail.side uses objects after ways more
+by_side s book f uses objects after ways more p = subst (λ (side : Side). Passes side uses objects after ways more) (sym f.tells.side_is) p
+
 -- ---- a frame is heard
 
-heard_works : (half : ℕ) (frame : Frame) (s : Now) (book : Book) → Works true (seen half s book) (seen half (step (Heard frame) s) (grown (Heard frame) s book))
+heard_works : (half : ℕ) (s : Now) (book : Book) (f : Follows s book) (event : Event) (d : FrameDue s event) → Works true (seen half s book) (seen half (step (Heard d.frame) s) (grown (Heard d.frame) s book))
 unfolding step
-heard_works half frame s book = record {
+heard_works half s book f event d = record {
   took = [];
-  inside = takes_same (seen half s book).inside;
+  inside = record { messages = tt; inlet = leaves_same s.live.sending.inlet; asked = refl; none = λ e. refl };
   awaits = record { stay = λ e. (refl, refl); begin = λ n. absurd (n refl) };
   trail = record { side = refl; taken = sym (append-nil book.trail.taken); made = front_same book.trail.made; copies = front_same book.trail.copies; lines = refl; accepted = omega arith };
   order = front_more book.order _;
+  passes =
+      by_side s book f [] s.live.tables.objects.tracked (heard s.live.tables s.live.taking d.frame).tables.objects.tracked book.order (marked_order s.side (Some (marks.Heard d.frame)) book.order)
+      (subst (λ (state : LogState). Passes s.side [] s.live.tables.objects.tracked (log_next state (marks.Heard d.frame)).tables.objects.tracked book.order (marked_order s.side (Some (marks.Heard d.frame)) book.order)) f.after
+      (heard_passes s book f event d));
   silent = λ e. absurd cc;
 }
 
@@ -68,7 +84,8 @@ grouped_works half s book (Some it) e = record {
   awaits = record { stay = λ n. (sym (ap (map words_in) e), sym (ap (sum_by (loaded_in half)) e)); begin = λ n. absurd (n refl) };
   trail = record { side = refl; taken = sym (append-nil book.trail.taken); made = front_more book.trail.made it.frames; copies = front_more book.trail.copies it.copies; lines = refl; accepted = omega arith };
   order = front_same book.order;
-  silent = λ n. record { accepted = refl; acknowledged = refl; given = refl; order = λ m. refl };
+  passes = passes_same book.trail.side s.live.tables.objects.tracked book.order;
+  silent = λ n. record { accepted = refl; acknowledged = refl; given = refl; order = λ m. refl; objects = λ m. refl };
 }
 
 -- ---- a message is taken
@@ -86,26 +103,34 @@ loaded_none half (Some owed) jobs e = go (all_back jobs)
     go true = refl
     go false = e
 
-took_works : (half : ℕ) (s : Now) (book : Book) (it : Treated) → s.live.sending.owes ≡ None → IsTaken s.live.tables s.live.sending s.live.taking it → LeftBy s.live.sending it
+took_works : (half : ℕ) (s : Now) (book : Book) (f : Follows s book) (it : Treated) → s.live.sending.owes ≡ None → turn s.live.tables s.live.sending ≡ turns.Takes it
     → Works false (seen half s book) (seen half (took (turns.Takes it) s) (marked_book s.side (mark_taken (turns.Takes it)) book))
-took_works half s book it none taken left = record {
-  took = it.message ∷ [];
-  inside = record {
-    messages = (taken.lawful.whole, tt);
-    bytes = taken.front ∙ ap (λ (front : List ℕ). front ++ it.sending.inlet.bytes) (sym (append-nil it.message));
-    handles = end_map (λ one. one.1) left.handles;
-    notes = end_map (λ one. one.1) left.notes;
-    asked = refl;
-    none = λ e. absurd cc;
-  };
-  awaits = record {
-    stay = λ e. absurd cc;
-    begin = λ n. (ap (λ (owes : Option Owed). map words_in (awaited owes s.kept.jobs)) none, loaded_none half it.sending.owes it.jobs (left.fresh half));
-  };
-  trail = record { side = refl; taken = refl; made = front_same book.trail.made; copies = front_same book.trail.copies; lines = refl; accepted = omega arith };
-  order = front_more book.order _;
-  silent = λ n. record { accepted = refl; acknowledged = refl; given = refl; order = λ m. absurd cc };
-}
+took_works half s book f it none takes =
+    let taken : IsTaken s.live.tables s.live.sending s.live.taking it = turn_is_lawful s.live.tables s.live.sending s.live.taking it takes in
+    let left : LeftBy s.live.tables s.live.sending it = left_by s.live.tables s.live.sending it takes in
+    let uses : List Use = use_of (own_way s.live.tables.handles.side) it.message left.done ∷ [] in
+    record {
+      took = it.message ∷ [];
+      inside = record {
+        messages = (taken.lawful.whole, tt);
+        inlet = record {
+          uses = uses;
+          took_is = refl;
+          left_is = left.inlet;
+          bytes = taken.front ∙ ap (λ (front : List ℕ). front ++ it.sending.inlet.bytes) (sym (append-nil it.message));
+        };
+        asked = refl;
+        none = λ e. absurd cc;
+      };
+      awaits = record {
+        stay = λ e. absurd cc;
+        begin = λ n. (ap (λ (owes : Option Owed). map words_in (awaited owes s.kept.jobs)) none, loaded_none half it.sending.owes it.jobs (left.fresh half));
+      };
+      trail = record { side = refl; taken = refl; made = front_same book.trail.made; copies = front_same book.trail.copies; lines = refl; accepted = omega arith };
+      order = front_more book.order _;
+      passes = by_side s book f uses s.live.tables.objects.tracked it.tables.objects.tracked book.order (book.order ++ own_way s.side ∷ []) (took_passes s book f it takes left);
+      silent = λ n. record { accepted = refl; acknowledged = refl; given = refl; order = λ m. absurd cc; objects = λ m. absurd cc };
+    }
 
 -- ---- CLOSE is made
 
@@ -117,49 +142,48 @@ ended_works half s book (Asked reason) e = record {
   took = [];
   inside = record {
     messages = tt;
-    bytes = refl;
-    handles = end_same _;
-    notes = end_same _;
+    inlet = leaves_same s.live.sending.inlet;
     asked = sym (ap (λ closing. not (is_open closing)) e);
-    none = λ n. ap (λ asked. record (seen half s book).inside { asked = asked }) (sym (ap (λ closing. not (is_open closing)) e));
+    none = λ n. refl;
   };
   awaits = record { stay = λ n. (refl, refl); begin = λ n. absurd (n refl) };
   trail = record { side = refl; taken = sym (append-nil book.trail.taken); made = front_more book.trail.made _; copies = front_more book.trail.copies []; lines = refl; accepted = omega arith };
   order = front_same book.order;
-  silent = λ n. record { accepted = refl; acknowledged = refl; given = refl; order = λ m. refl };
+  passes = passes_same book.trail.side s.live.tables.objects.tracked book.order;
+  silent = λ n. record { accepted = refl; acknowledged = refl; given = refl; order = λ m. refl; objects = λ m. refl };
 }
 
 -- ---- any event that is due
 
 -- that hears no frame
-works_quiet : (half : ℕ) (event : Event) (s : Now) (book : Book) → hear s ≡ Rest → DueIn s event → Works false (seen half s book) (seen half (step event s) (grown event s book))
+works_quiet : (half : ℕ) (event : Event) (s : Now) (book : Book) → Follows s book → hear s ≡ Rest → DueIn s event → Works false (seen half s book) (seen half (step event s) (grown event s book))
 unfolding step
-works_quiet half event s book quiet (InHear h) = absurd (let never : Do event ≡ Rest = sym h ∙ quiet in cc)
-works_quiet half event s book quiet (InGroup a h) =
+works_quiet half event s book f quiet (InHear h) = absurd (let never : Do event ≡ Rest = sym h ∙ quiet in cc)
+works_quiet half event s book f quiet (InGroup a h) =
     let due : GroupDue s event = group_is_due s event h in
     subst (λ (v : Event). Works false (seen half s book) (seen half (step v s) (grown v s book))) (sym due.is)
     (grouped_works half s book (group_due s.live.sending.owes s.kept.jobs) (group_awaits s.live.sending.owes s.kept.jobs due.made due.due))
-works_quiet half event s book quiet (InTreat a b h) =
+works_quiet half event s book f quiet (InTreat a b h) =
     let due : TurnDue s event = turn_due s event h in
     let taken : Works false (seen half s book) (seen half (took (turns.Takes due.it) s) (marked_book s.side (mark_taken (turns.Takes due.it)) book)) =
-    took_works half s book due.it (free_owes s.live.sending.owes s.kept.ring due.free) (turn_is_lawful s.live.tables s.live.sending s.live.taking due.it due.takes) (left_by s.live.tables s.live.sending due.it due.takes) in
+    took_works half s book f due.it (free_owes s.live.sending.owes s.kept.ring due.free) due.takes in
     subst (λ (v : Event). Works false (seen half s book) (seen half (step v s) (grown v s book))) (sym due.is)
     (subst (λ (it : Turn). Works false (seen half s book) (seen half (took it s) (marked_book s.side (mark_taken it) book))) (sym due.takes) taken)
-works_quiet half event s book quiet (InEnd a b c h) =
+works_quiet half event s book f quiet (InEnd a b c h) =
     let due : EndDue s event = end_is_due s event h in
     subst (λ (v : Event). Works false (seen half s book) (seen half (step v s) (grown v s book))) (sym due.is) (ended_works half s book s.kept.closing refl)
-works_quiet half event s book quiet (InChoose a b c d h) =
+works_quiet half event s book f quiet (InChoose a b c d h) =
     let due : ChoiceDue s event = choice_due s event h in
     subst (λ (v : Event). Works false (seen half s book) (seen half (step v s) (grown v s book))) (sym due.is) (works_same false (seen half s book))
 
-works_due : (half : ℕ) (event : Event) (s : Now) (book : Book) → DueIn s event → Works true (seen half s book) (seen half (step event s) (grown event s book))
-works_due half event s book (InHear h) =
+works_due : (half : ℕ) (event : Event) (s : Now) (book : Book) → Follows s book → DueIn s event → Works true (seen half s book) (seen half (step event s) (grown event s book))
+works_due half event s book f (InHear h) =
     let due : FrameDue s event = frame_due s event h in
-    subst (λ (v : Event). Works true (seen half s book) (seen half (step v s) (grown v s book))) (sym due.is) (heard_works half due.frame s book)
-works_due half event s book (InGroup a h) = may_hear _ _ (works_quiet half event s book a (InGroup a h))
-works_due half event s book (InTreat a b h) = may_hear _ _ (works_quiet half event s book a (InTreat a b h))
-works_due half event s book (InEnd a b c h) = may_hear _ _ (works_quiet half event s book a (InEnd a b c h))
-works_due half event s book (InChoose a b c d h) = may_hear _ _ (works_quiet half event s book a (InChoose a b c d h))
+    subst (λ (v : Event). Works true (seen half s book) (seen half (step v s) (grown v s book))) (sym due.is) (heard_works half s book f event due)
+works_due half event s book f (InGroup a h) = may_hear _ _ (works_quiet half event s book f a (InGroup a h))
+works_due half event s book f (InTreat a b h) = may_hear _ _ (works_quiet half event s book f a (InTreat a b h))
+works_due half event s book f (InEnd a b c h) = may_hear _ _ (works_quiet half event s book f a (InEnd a b c h))
+works_due half event s book f (InChoose a b c d h) = may_hear _ _ (works_quiet half event s book f a (InChoose a b c d h))
 
 -- and no frame is to be heard behind it
 pub stays_quiet : (event : Event) (s : Now) → hear s ≡ Rest → DueIn s event → hear (step event s) ≡ Rest
@@ -172,13 +196,13 @@ stays_quiet event s quiet (InChoose a b c d h) =
 
 -- ---- a row of them
 
-pub row_works : (half : ℕ) (s t : Now) (book : Book) (events : List Event) → Part s events t → Works true (seen half s book) (seen half t (grow_all events s book))
-row_works half s t book [] p = subst (λ (u : Now). Works true (seen half s book) (seen half u book)) (sym p) (works_same true (seen half s book))
-row_works half s t book (x ∷ xs) p =
-    works_then true _ _ _ (works_due half x s book (due_in s x p.0)) (row_works half (step x s) t (grown x s book) xs p.1)
+pub row_works : (half : ℕ) (s t : Now) (book : Book) (events : List Event) → FollowsOn s book → Part s events t → Works true (seen half s book) (seen half t (grow_all events s book))
+row_works half s t book [] f p = subst (λ (u : Now). Works true (seen half s book) (seen half u book)) (sym p) (works_same true (seen half s book))
+row_works half s t book (x ∷ xs) f p =
+    works_then true _ _ _ (works_due half x s book f.follows (due_in s x p.0)) (row_works half (step x s) t (grown x s book) xs (follows_part s (step x s) book (x ∷ []) f (p.0, refl)) p.1)
 
-pub quiet_row : (half : ℕ) (s t : Now) (book : Book) (events : List Event) → hear s ≡ Rest → Part s events t → Works false (seen half s book) (seen half t (grow_all events s book))
-quiet_row half s t book [] quiet p = subst (λ (u : Now). Works false (seen half s book) (seen half u book)) (sym p) (works_same false (seen half s book))
-quiet_row half s t book (x ∷ xs) quiet p =
+pub quiet_row : (half : ℕ) (s t : Now) (book : Book) (events : List Event) → FollowsOn s book → hear s ≡ Rest → Part s events t → Works false (seen half s book) (seen half t (grow_all events s book))
+quiet_row half s t book [] f quiet p = subst (λ (u : Now). Works false (seen half s book) (seen half u book)) (sym p) (works_same false (seen half s book))
+quiet_row half s t book (x ∷ xs) f quiet p =
     let due : DueIn s x = due_in s x p.0 in
-    works_then false _ _ _ (works_quiet half x s book quiet due) (quiet_row half (step x s) t (grown x s book) xs (stays_quiet x s quiet due) p.1)
+    works_then false _ _ _ (works_quiet half x s book f.follows quiet due) (quiet_row half (step x s) t (grown x s book) xs (follows_part s (step x s) book (x ∷ []) f (p.0, refl)) (stays_quiet x s quiet due) p.1)

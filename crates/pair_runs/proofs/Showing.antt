@@ -41,6 +41,7 @@ use Rattle.pair_laws.proofs.Saying.{meant_length}
 use Rattle.pair_runs.specs.Kept.{owed_words}
 use Rattle.pair_runs.specs.Sides.{TOKEN, is_free, awaited, words_in, side_seen, ring_in, last_number, link_record}
 use Rattle.pair_runs.specs.WorkLaws.{RunsOn, WantsIs, NothingLent, KeptByCalls}
+use Rattle.pair_runs.proofs.Tracking.{tracked_there}
 
 -- ---- copies
 
@@ -140,7 +141,7 @@ nothing_lent half here t r token up front =
 -- ---- the records are kept
 
 -- a whole message waits only where it must
-treated_so : (s : Now) → treat s ≡ Rest → waits_in s.live.sending ≡ true → due.is_free s.live.sending.owes s.kept.ring ≡ false
+pub treated_so : (s : Now) → treat s ≡ Rest → waits_in s.live.sending ≡ true → due.is_free s.live.sending.owes s.kept.ring ≡ false
 treated_so s rest w = elim (turn_idle s rest) [
   | inl held ↦ held
   | inr idle ↦ by_owes s.live.sending.owes refl idle
@@ -177,6 +178,7 @@ kept_by_calls half t r token items =
       law = record { story = f.story; tells = f.tells; log = f.log; stop = None; wire = wire; heard = rests.accepts; stops = refl; index = tt; weighs = omega (arith, same_weight 0 t.book, r.keeps.law.weighs) };
       gave = f.items.counts ∙ ap (count_by is_message) gone ∙ sym (meant_count s.side f.story f.log) ∙ meant_length s.side f.story f.log;
       awaits = awaits_owed s.live.sending.owes s.kept.jobs dues f.jobs ∙ ap owed_words (sym owes);
+      tracked = tracked_there s (closed t.book) f;
       treated = λ w. free_is half t r ∙ treated_so s (all_rest s on.rests).treats w;
       closes = λ asked w none.
           let owed : s.live.sending.owes ≡ None = none_owed s.live.sending.owes (sym (awaits_is s.live.sending.owes s.kept.jobs dues) ∙ ap is_empty none) in

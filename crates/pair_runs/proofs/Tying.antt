@@ -20,7 +20,7 @@ use Rattle.pair_runs.specs.Quiet.{Carries, TiedLines, Tied}
 use Rattle.pair_runs.specs.Sides.{SideState, rows_of, last_number, fed, asked, all_loaded}
 use Rattle.pair_runs.specs.States.{State, Lanes, Fault, no_lanes, first_state, side_at, with_side, wire_at, with_wire, lane_at, with_lane, on_lane, writer, reader, connections}
 use Rattle.pair_runs.specs.Taking.{cut_item, Taker, TakesIn}
-use Rattle.pair_runs.specs.Working.{Works, WorksInPart}
+use Rattle.pair_runs.specs.Working.{Works, InPart}
 use Rattle.pair_runs.proofs.Lines.{HasLast, has_last, all_below, last_changed, read_written, written_read, written_there, read_there, swapped, written_agrees, read_agrees, line_agrees, new_read, new_written, none_read}
 use Rattle.pair_runs.proofs.Showing.{last_push}
 
@@ -29,14 +29,14 @@ use Rattle.pair_runs.proofs.Showing.{last_push}
 pub works_rows : (hears : Bool) (a b : SideState) → Works hears a b → rows_of b ≡ rows_of a
 works_rows hears a b w = ap (λ (lines : Lined). lines.rows) w.trail.lines
 
-pub part_rows : (a b : SideState) → WorksInPart a b → rows_of b ≡ rows_of a
+pub part_rows : (a b : SideState) → InPart a b → rows_of b ≡ rows_of a
 part_rows a b w = ap (λ (lines : Lined). lines.rows) w.trail.lines
 
 takes_rows : (count most : ℕ) (a : SideState) (wire : List PeerIn) (b : Taker) (stop : Option ProxyFault) → TakesIn count most a wire b stop → rows_of b.side ≡ rows_of a
 takes_rows zero most a wire b stop h = ap (λ (it : Taker). rows_of it.side) h.0
 takes_rows (suc count) most a [] b stop h = absurd h
 takes_rows (suc count) most a (item ∷ wire) b stop h = elim h.2 [
-  | inl fails ↦ part_rows (fed (cut_item most item wire).item a) b.side fails.part
+  | inl fails ↦ part_rows (fed (cut_item most item wire).item a) b.side fails.part.part
   | inr goes ↦ takes_rows count (most - (cut_item most item wire).cost) goes.mid (cut_item most item wire).rest b stop goes.more ∙ works_rows false (fed (cut_item most item wire).item a) goes.mid goes.works
 ]
 
@@ -46,14 +46,14 @@ loads_rows zero words a b over stop h = elim h.1 [
   | inr last ↦ ap rows_of last.1
 ]
 loads_rows (suc count) words a b over stop h = elim h.2 [
-  | inl fails ↦ part_rows a b fails.part
+  | inl fails ↦ part_rows a b fails.part.part
   | inr goes ↦ loads_rows count _ goes.1.mid b over stop goes.1.more ∙ works_rows false (all_loaded a) goes.1.mid goes.1.works
 ]
 
 all_rows : (count : ℕ) (a b : SideState) (stop : Option ProxyFault) → LoadsAllIn count a b stop → rows_of b ≡ rows_of a
 all_rows zero a b stop h = ap rows_of h.1
 all_rows (suc count) a b stop h = elim h.1 [
-  | inl fails ↦ part_rows a b fails.part
+  | inl fails ↦ part_rows a b fails.part.part
   | inr goes ↦ all_rows count goes.mid b stop goes.more ∙ works_rows false (all_loaded a) goes.mid goes.works
 ]
 
@@ -61,7 +61,7 @@ closed_rows : (said : Bool) (stop : Option ProxyFault) (a b : SideState) → Clo
 closed_rows true None a b h = ap rows_of h
 closed_rows true (Some fault) a b h = absurd h
 closed_rows false None a b h = works_rows false (asked a) b h
-closed_rows false (Some fault) a b h = part_rows (asked a) b h
+closed_rows false (Some fault) a b h = part_rows (asked a) b h.part
 
 tied_lines : (near far other_near other_far : List Line) (line other : Option Lanes) → other_near ≡ near → other_far ≡ far → other ≡ line → TiedLines near far line → TiedLines other_near other_far other
 tied_lines near far other_near other_far line other n f l t =

@@ -13,8 +13,8 @@ use Rattle.pair_runs.specs.Moves.{Move, Put, Take, Load, LoadAll, Connect, Conne
 use Rattle.pair_runs.specs.Sides.{SideState, on_rows, fed, asked, all_loaded, wants}
 use Rattle.pair_runs.specs.States.{State, Lanes, Fault, side_at, with_side, wire_at, with_wire, lane_at, on_lane, writer, reader, connections}
 use Rattle.pair_runs.specs.Taking.{Cut, cut_item, Taker, TakesIn}
-use Rattle.pair_runs.specs.Working.{Works, WorksInPart}
-use Rattle.pair_runs.proofs.Failing.{nothing_part}
+use Rattle.pair_runs.specs.Working.{Works, InPart}
+use Rattle.pair_runs.proofs.Partly.{nothing_part}
 
 -- what holds behind good calls, and what behind one that meets a fault
 pub record Steps (R P : SideState → SideState → Type 0) : Type 0 where
@@ -23,7 +23,7 @@ pub record Steps (R P : SideState → SideState → Type 0) : Type 0 where
   pub ends : (a b c : SideState) → R a b → P b c → P a c
   pub keeps : (a b : SideState) → R a b → P a b
   pub works : (hears : Bool) (a b : SideState) → Works hears a b → R a b
-  pub part : (a b : SideState) → WorksInPart a b → P a b
+  pub part : (a b : SideState) → InPart a b → P a b
   pub feeds : (item : PeerIn) (a : SideState) → wants a ≡ true → R a (fed item a)
   pub asks : (a : SideState) → R a (asked a)
   pub loads : (a : SideState) (copies : List ℕ) (loaded : ℕ) → R a (record a { copies = copies; loaded = loaded })
@@ -52,7 +52,7 @@ module _ (R P : SideState → SideState → Type 0) (h : Steps R P) where
   takes_step (suc count) most a (item ∷ wire) b stop t = elim t.2 [
     | inl fails ↦
         let it : Cut = cut_item most item wire in
-        subst (λ (x : Option ProxyFault). By R P x a b.side) (sym fails.stops) (h.ends a (fed it.item a) b.side (h.feeds it.item a t.1) (h.part (fed it.item a) b.side fails.part))
+        subst (λ (x : Option ProxyFault). By R P x a b.side) (sym fails.stops) (h.ends a (fed it.item a) b.side (h.feeds it.item a t.1) (h.part (fed it.item a) b.side fails.part.part))
     | inr goes ↦
         let it : Cut = cut_item most item wire in
         then_by stop a goes.mid b.side (h.chain a (fed it.item a) goes.mid (h.feeds it.item a t.1) (h.works false (fed it.item a) goes.mid goes.works))
@@ -65,7 +65,7 @@ module _ (R P : SideState → SideState → Type 0) (h : Steps R P) where
     | inr last ↦ subst (λ (it : SideState). R a it) (sym last.1) (h.loads a a.copies (a.loaded + words))
   ])
   loads_step (suc count) words over a b stop l = elim l.2 [
-    | inl fails ↦ subst (λ (x : Option ProxyFault). By R P x a b) (sym fails.stops) (h.part a b fails.part)
+    | inl fails ↦ subst (λ (x : Option ProxyFault). By R P x a b) (sym fails.stops) (h.part a b fails.part.part)
     | inr goes ↦
         then_by stop a goes.1.mid b (h.chain a (all_loaded a) goes.1.mid (h.loads a [] 0) (h.works false (all_loaded a) goes.1.mid goes.1.works))
         (loads_step count _ over goes.1.mid b stop goes.1.more)
@@ -74,7 +74,7 @@ module _ (R P : SideState → SideState → Type 0) (h : Steps R P) where
   all_step : (count : ℕ) (a b : SideState) (stop : Option ProxyFault) → LoadsAllIn count a b stop → By R P stop a b
   all_step zero a b stop l = subst (λ (x : Option ProxyFault). By R P x a b) (sym l.2) (subst (λ (it : SideState). R a it) (sym l.1) (h.same a))
   all_step (suc count) a b stop l = elim l.1 [
-    | inl fails ↦ subst (λ (x : Option ProxyFault). By R P x a b) (sym fails.stops) (h.part a b fails.part)
+    | inl fails ↦ subst (λ (x : Option ProxyFault). By R P x a b) (sym fails.stops) (h.part a b fails.part.part)
     | inr goes ↦
         then_by stop a goes.mid b (h.chain a (all_loaded a) goes.mid (h.loads a [] 0) (h.works false (all_loaded a) goes.mid goes.works)) (all_step count goes.mid b stop goes.more)
   ]
@@ -83,7 +83,7 @@ module _ (R P : SideState → SideState → Type 0) (h : Steps R P) where
   closed_step true None a b c = subst (λ (it : SideState). R a it) (sym c) (h.same a)
   closed_step true (Some fault) a b c = absurd c
   closed_step false None a b c = h.chain a (asked a) b (h.asks a) (h.works false (asked a) b c)
-  closed_step false (Some fault) a b c = h.ends a (asked a) b (h.asks a) (h.part (asked a) b c)
+  closed_step false (Some fault) a b c = h.ends a (asked a) b (h.asks a) (h.part (asked a) b c.part)
 
   line_step : (connection : ℕ) (a b : SideState) → LineInPart connection a b → P a b
   line_step connection a b part = elim part [

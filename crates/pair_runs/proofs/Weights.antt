@@ -13,7 +13,7 @@ use Rattle.pair_model.specs.Steps.{on_last, with_written, with_read}
 use Rattle.side_model.specs.Books.{TrailRecord, Lined, MOST_WEIGHT, weight, spelled, line_weight, ITEM_WEIGHT}
 use Rattle.pair_runs.specs.Linking.{new_line, with_line, written, read}
 use Rattle.pair_runs.specs.Measure.{copies_left, side_left}
-use Rattle.pair_runs.specs.Sides.{SideState, rows_of, on_rows}
+use Rattle.pair_runs.specs.Sides.{Inside, SideState, rows_of, on_rows}
 use Rattle.pair_runs.specs.Working.{Awaits, Grows, Silent, Works}
 
 -- ---- messages and frames
@@ -77,6 +77,9 @@ trail_is a b e1 e2 e3 e4 e5 e6 e7 e8 =
     ∙ ap (λ x. record a { acknowledged = x; given = b.given }) e7
     ∙ ap (λ x. record a { given = x }) e8
 
+inside_is : (a b : Inside) → b.inlet ≡ a.inlet → b.objects ≡ a.objects → b.asked ≡ a.asked → b ≡ a
+inside_is a b e1 e2 e3 = ap (λ x. record b { inlet = x }) e1 ∙ ap (λ x. record b { inlet = a.inlet; objects = x }) e2 ∙ ap (λ x. record a { asked = x }) e3
+
 pub side_is : (a b : SideState) → b.book.trail ≡ a.book.trail → b.book.order ≡ a.book.order → b.inside ≡ a.inside → b.copies ≡ a.copies → b.loaded ≡ a.loaded → b ≡ a
 side_is a b e1 e2 e3 e4 e5 =
     ap (λ x. record b { book = record b.book { trail = x } }) e1
@@ -94,7 +97,7 @@ nothing_more a b w none more frames copies =
     (sym more.made ∙ ap (λ fs. a.book.trail.made ++ fs) frames ∙ append-nil a.book.trail.made)
     (sym more.copied ∙ ap (λ cs. a.book.trail.copies ++ cs) copies ∙ append-nil a.book.trail.copies)
     w.trail.lines quiet.accepted quiet.acknowledged quiet.given)
-    (quiet.order none) (w.inside.none none) (w.awaits.stay none).0 (w.awaits.stay none).1
+    (quiet.order none) (inside_is a.inside b.inside (w.inside.none none) (quiet.objects none) w.inside.asked) (w.awaits.stay none).0 (w.awaits.stay none).1
 
 frames_weigh : (frames : List Frame) → (frames ≡ []) ⊎ (0 < sum_by spelled frames)
 frames_weigh [] = inl refl

@@ -28,7 +28,7 @@ pub record Brings (put : List ℕ) (taken : List (List ℕ)) (waiting : List ℕ
 
 -- what waits of a peer's bytes, inside its side and on its wire
 abbrev pub waiting : SideState → List PeerIn → List ℕ
-waiting it wire = it.inside.bytes ++ bytes_in wire
+waiting it wire = it.inside.inlet.bytes ++ bytes_in wire
 
 -- The messages that each side took are the first ones that its peer put.
 pub record TakesFirst (steps : List Step) (last : State) : Type 0 where

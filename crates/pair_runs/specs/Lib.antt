@@ -1,4 +1,7 @@
 pub mod Sides
+pub mod Leaving
+pub mod Causes
+pub mod Whys
 pub mod Working
 pub mod States
 pub mod Taking
@@ -17,3 +20,6 @@ pub mod Agreeing
 pub mod Headline
 pub mod Orders
 pub mod Completing
+pub mod Putting
+pub mod Faults
+pub mod WrongFaults

@@ -1,15 +1,14 @@
 -- How bytes go from a side onto the line and from the line into a side; this project's own.
 use Rattle.std.specs.Prelude.{◌≡◌, ◌≢◌, ℕ, ◌≤◌, true, List, [], ◌∷◌, ◌++◌, take, length}
-use Rattle.std.specs.Prelude.{◌⊎◌}
-use Rattle.half_model.specs.declared.causes.Limit.TheVariants.{Trail}
+use Rattle.std.specs.Prelude.{None, ◌⊎◌}
 use Rattle.pair_model.specs.Lines.{Line}
 use Rattle.pair_model.specs.Quiet.{NoFront}
 use Rattle.pair_model.specs.Steps.{on_last, with_written, with_read}
 use Rattle.side_model.specs.declared.fault.ProxyFault.{ProxyFault}
-use Rattle.side_model.specs.declared.fault.ProxyFault.TheVariants.{Limit, Memory}
 use Rattle.side_model.specs.Sound.{MOST_PIECE}
 use Rattle.pair_runs.specs.Sides.{SideState, TOKEN, rows_of, on_rows, last_number, link_record}
-use Rattle.pair_runs.specs.Working.{Works, WorksInPart}
+use Rattle.pair_runs.specs.Whys.{RefusesMore}
+use Rattle.pair_runs.specs.Working.{Works, InPart, WorksInPart}
 
 -- ---- a connection
 
@@ -47,10 +46,6 @@ abbrev pub Reads : List ℕ → SideState → SideState → Type 0
 Reads [] a b = b ≡ a
 Reads (byte ∷ bytes) a b = (rows_of a ≢ []) × Works true (read (byte ∷ bytes) a) b
 
--- the two faults for which a side doesn't read a piece
-abbrev pub RefusesPiece : ProxyFault → Type 0
-RefusesPiece fault = (fault ≡ Limit Trail) ⊎ (fault ≡ Memory)
-
 -- Bytes of these are pulled up to a fault; those of the last piece may be refused.
 pub record ReadsInPart (bytes : List ℕ) (fault : ProxyFault) (pulled : List ℕ) (a b : SideState)
     : Type 0 where
@@ -60,5 +55,6 @@ pub record ReadsInPart (bytes : List ℕ) (fault : ProxyFault) (pulled : List �
   pub refused : List ℕ
   pub split : pulled ≡ got ++ refused
   pub piece : length refused ≤ MOST_PIECE
-  pub because : refused ≢ [] → RefusesPiece fault
-  pub part : WorksInPart (read got a) b
+  pub because : refused ≢ [] → RefusesMore (length refused) fault b.book.trail
+  pub part : InPart (read got a) b
+  pub why : refused ≡ [] → WorksInPart true None fault (read got a) b

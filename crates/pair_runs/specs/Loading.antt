@@ -10,7 +10,7 @@ use Rattle.pair_runs.specs.Working.{Works, WorksInPart}
 pub record LoadFails (a b : SideState) (stop : Option ProxyFault) : Type 0 where
   pub fault : ProxyFault
   pub stops : stop ≡ Some fault
-  pub part : WorksInPart a b
+  pub part : WorksInPart false None fault a b
 
 -- all copies that are awaited are loaded whole, and then others
 pub record LoadGoes (a : SideState) (More : SideState → Type 0) : Type 0 where

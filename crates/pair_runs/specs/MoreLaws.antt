@@ -1,15 +1,16 @@
 -- That calls of a proxy one after another are one move of a run, where a proxy begins, and which
 -- calls bring nothing for its peer; this project's own.
-use Rattle.std.specs.Prelude.{◌≡◌, ℕ, List, ◌++◌, Bool, true, Ok}
+use Rattle.std.specs.Prelude.{◌≡◌, ℕ, List, ◌++◌, Bool, true, None, Ok}
 use Rattle.wp_outside.specs.declared.kinds.Side.{Side}
 use Rattle.half_model.specs.declared.items.PeerIn.{PeerIn}
 use Rattle.half_model.specs.Jobs.{Done}
+use Rattle.side_model.specs.declared.fault.ProxyFault.{ProxyFault}
 use Rattle.side_model.specs.Events.{Fed, Handed, Asks}
 use Rattle.side_model.specs.Trails.{TrailState, no_records, TrailCalls}
 use Rattle.pair_runs.specs.Linking.{written, read}
 use Rattle.pair_runs.specs.Sides.{SideState, first_side, side_seen}
 use Rattle.pair_runs.specs.WorkLaws.{RunsOn}
-use Rattle.pair_runs.specs.Working.{Works, WorksInPart}
+use Rattle.pair_runs.specs.Working.{Works, InPart, WorksInPart}
 
 -- calls behind calls
 abbrev pub WorksMore : Type 0
@@ -24,9 +25,12 @@ ReadsMore = (one other : List ℕ) (a b c : SideState) → Works true (read one 
 
 -- and where the last call meets a fault
 pub record PartMore : Type 0 where
-  pub works : (a b c : SideState) → Works true a b → WorksInPart b c → WorksInPart a c
-  pub reads : (one other : List ℕ) (a b c : SideState) → Works true (read one a) b
-      → WorksInPart (read other b) c → WorksInPart (read (one ++ other) a) c
+  pub part : (a b c : SideState) → Works true a b → InPart b c → InPart a c
+  pub works : (fault : ProxyFault) (a b c : SideState) → Works true a b
+      → WorksInPart true None fault b c → WorksInPart true None fault a c
+  pub reads : (fault : ProxyFault) (one other : List ℕ) (a b c : SideState)
+      → Works true (read one a) b → WorksInPart true None fault (read other b) c
+      → WorksInPart true None fault (read (one ++ other) a) c
 
 -- and so are those that are written
 abbrev pub WritesMore : Type 0

@@ -1,25 +1,23 @@
 -- What moves in a run, one thing after another: items, words, bytes, connections. The moves are
 -- this project's own.
-use Rattle.std.specs.Prelude.{◌≡◌, ℕ, suc, ◌<◌, ◌≤◌, ◌||◌, ◌&&◌, not, nat_lt, if◌then◌else◌, Bool}
+use Rattle.std.specs.Prelude.{◌≡◌, ℕ, suc, ◌<◌, ◌||◌, ◌&&◌, not, nat_lt, if◌then◌else◌, Bool}
 use Rattle.std.specs.Prelude.{true, false, is_none, List, [], ◌∷◌, ◌++◌, take, drop, length}
 use Rattle.std.specs.Prelude.{slice_set, Option, Some, None, option_map, ◌⊎◌}
 use Rattle.wp_outside.specs.declared.kinds.Direction.{Direction}
 use Rattle.wp_outside.specs.declared.kinds.Side.{Side}
 use Rattle.wp_outside.specs.declared.kinds.Side.TheVariants.{Near, Far}
-use Rattle.half_model.specs.declared.causes.Limit.TheVariants.{Connections}
 use Rattle.half_model.specs.declared.items.PeerIn.{PeerIn}
 use Rattle.side_model.specs.Calls.{MOST_CONNECTIONS}
 use Rattle.side_model.specs.declared.fault.ProxyFault.{ProxyFault}
-use Rattle.side_model.specs.declared.fault.ProxyFault.TheVariants.{Limit}
 use Rattle.side_model.specs.Shows.{is_empty}
 use Rattle.pair_runs.specs.Kept.{Kept}
 use Rattle.pair_runs.specs.Linking.{with_line, Writes, WritesInPart, Reads, ReadsInPart}
-use Rattle.pair_runs.specs.Linking.{RefusesPiece}
 use Rattle.pair_runs.specs.Loading.{Loads, LoadsAll}
 use Rattle.pair_runs.specs.Sides.{SideState, asked, ring_in}
 use Rattle.pair_runs.specs.States.{State, Lanes, Fault, no_lanes, side_at, with_side, wire_at}
 use Rattle.pair_runs.specs.States.{with_wire, lane_at, on_lane, writer, reader, connections}
 use Rattle.pair_runs.specs.Taking.{Taker, TakesAll}
+use Rattle.pair_runs.specs.Whys.{RefusesLine, RefusesPiece}
 use Rattle.pair_runs.specs.Working.{Works, WorksInPart}
 
 -- one thing that moves; counts of bytes and of words are the greatest ones
@@ -100,7 +98,7 @@ ConnectBy None s t =
       line = Some no_lanes;
     })
 ConnectBy (Some it) s t =
-    (it.fault ≡ Limit Connections → MOST_CONNECTIONS ≤ connections s)
+    RefusesLine (suc (connections s)) it.fault (side_at it.side s).book.trail
     × ConnectFails it.side (suc (connections s)) s t
 
 abbrev pub ConnectedBy : Bool → State → State → Option Fault → Type 0
@@ -116,7 +114,8 @@ Connected makes s t stop = ConnectedBy (is_none s.line && makes) s t stop
 -- bytes of the side that writes are put at the end of a lane, if a connection is up
 abbrev pub WritesBy : Option ProxyFault → ℕ → List ℕ → SideState → SideState → Type 0
 WritesBy None most bytes a b = Writes most bytes a b
-WritesBy (Some fault) most bytes a b = WritesInPart most bytes a b × RefusesPiece fault
+WritesBy (Some fault) most bytes a b =
+    WritesInPart most bytes a b × RefusesPiece fault b.book.trail
 
 abbrev pub PushedOn : Option Lanes → Direction → ℕ → State → State → Option Fault → Type 0
 PushedOn None dir most s t stop = (t ≡ s) × (stop ≡ None)
@@ -153,7 +152,7 @@ abbrev pub ClosedBy : Bool → Option ProxyFault → SideState → SideState →
 ClosedBy true None a b = b ≡ a
 ClosedBy true (Some fault) a b = ⊥
 ClosedBy false None a b = Works false (asked a) b
-ClosedBy false (Some fault) a b = WorksInPart (asked a) b
+ClosedBy false (Some fault) a b = WorksInPart false None fault (asked a) b
 
 abbrev pub Closed : Side → State → State → Option Fault → Type 0
 Closed side s t stop =

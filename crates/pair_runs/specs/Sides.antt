@@ -1,14 +1,13 @@
 -- One side of a run as plain data: its records, what waits inside it, and the copies that it waits
 -- for. Messages are Wayland's; proxies, records and copies are this project's own.
 use Rattle.std.specs.Prelude.{ℕ, ◌-◌, ◌&&◌, not, if◌then◌else◌, Bool, true, false, List, []}
-use Rattle.std.specs.Prelude.{◌∷◌, ◌++◌, drop, map, sum, sum_by, Option, Some, None}
+use Rattle.std.specs.Prelude.{◌∷◌, drop, map, sum, sum_by, Option, Some, None}
 use Rattle.wp_outside.specs.declared.kinds.Side.{Side}
-use Rattle.handle_table.specs.declared.handles.Handle.{Handle}
-use Rattle.shm_pools.specs.declared.notes.Note.{Note}
+use Rattle.wl_objects.specs.Entries.{Tracked, first_objects}
 use Rattle.transfer_frames.specs.Grammar.{spelling}
 use Rattle.half_model.specs.declared.items.PeerIn.{PeerIn}
-use Rattle.half_model.specs.declared.items.PeerIn.TheVariants as items
 use Rattle.half_model.specs.Group.{Owed}
+use Rattle.half_model.specs.Inlet.{Inlet, no_inlet, with_item}
 use Rattle.half_model.specs.Jobs.{Job, JobState, Waits, IsOut, IsBack, all_back}
 use Rattle.pair_model.specs.Lines.{Line, SideRecord}
 use Rattle.pair_model.specs.RingState.{RingState}
@@ -24,11 +23,11 @@ unfoldable pub TOKEN : List ℕ
 TOKEN =
     119 ∷ 97 ∷ 121 ∷ 112 ∷ 105 ∷ 112 ∷ 101 ∷ 45 ∷ 115 ∷ 101 ∷ 115 ∷ 115 ∷ 105 ∷ 111 ∷ 110 ∷ 33 ∷ []
 
--- what a side took from its wire and no taken message used, and whether it was asked to close
+-- what a side took from its wire and no taken message used, the objects that it tracks, and whether
+-- it was asked to close
 pub record Inside : Type 0 where
-  pub bytes : List ℕ
-  pub handles : List Handle
-  pub notes : List Note
+  pub inlet : Inlet
+  pub objects : Tracked
   pub asked : Bool
 
 pub record SideState : Type 0 where
@@ -41,7 +40,7 @@ pub record SideState : Type 0 where
 
 -- at first
 abbrev pub no_inside : Inside
-no_inside = record { bytes = []; handles = []; notes = []; asked = false }
+no_inside = record { inlet = no_inlet; objects = first_objects; asked = false }
 
 abbrev pub first_side : Side → SideState
 first_side side = record { book = no_book side; inside = no_inside; copies = []; loaded = 0 }
@@ -64,10 +63,7 @@ on_rows change it = with_trail
 
 -- with an item from its wire; what is done to a pipe waits for nothing
 abbrev pub fed_inside : PeerIn → Inside → Inside
-fed_inside (items.Bytes piece) inside = record inside { bytes = inside.bytes ++ piece }
-fed_inside (items.Handle handle) inside = record inside { handles = inside.handles ++ handle ∷ [] }
-fed_inside (items.Note note) inside = record inside { notes = inside.notes ++ note ∷ [] }
-fed_inside (items.Pipe item) inside = inside
+fed_inside item inside = record inside { inlet = with_item item inside.inlet }
 
 abbrev pub fed : PeerIn → SideState → SideState
 fed item it = with_inside (fed_inside item) it
@@ -132,9 +128,8 @@ words_in job = job.part.count
 
 abbrev pub inside_of : Now → Inside
 inside_of s = record {
-  bytes = s.live.sending.inlet.bytes;
-  handles = map (λ it. it.1) s.live.sending.inlet.handles;
-  notes = map (λ it. it.1) s.live.sending.inlet.notes;
+  inlet = s.live.sending.inlet;
+  objects = s.live.tables.objects.tracked;
   asked = not (is_open s.kept.closing);
 }
 

@@ -44,7 +44,7 @@ TakesNone most a = (most ≡ 0) ⊎ ((a.wire ≡ []) ⊎ (wants a.side ≡ false
 pub record TakeFails (it : Cut) (a b : Taker) (stop : Option ProxyFault) : Type 0 where
   pub fault : ProxyFault
   pub stops : stop ≡ Some fault
-  pub part : WorksInPart (fed it.item a.side) b.side
+  pub part : WorksInPart false (Some it.item) fault (fed it.item a.side) b.side
   pub wire : b.wire ≡ it.rest
 
 -- an item is taken, and then others

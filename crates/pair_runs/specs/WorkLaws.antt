@@ -16,13 +16,15 @@ use Rattle.side_model.specs.Calls.{MOST_CONNECTIONS}
 use Rattle.side_model.specs.Events.{Fed, Handed, Lent, Up, Down, Came, Gave, Asks}
 use Rattle.side_model.specs.Follows.{is_message}
 use Rattle.side_model.specs.Shows.{wants_peer, next_item, front_of}
+use Rattle.side_model.specs.Sound.{Admits}
 use Rattle.side_model.specs.Trails.{TrailState, Keeps, TrailCalls, trail_step, Sends, Lends}
 use Rattle.pair_runs.specs.Kept.{GoesOn, HasFailed}
-use Rattle.pair_runs.specs.Linking.{with_line, written, read, RefusesPiece}
+use Rattle.pair_runs.specs.Linking.{with_line, written, read}
 use Rattle.pair_runs.specs.Moves.{LineInPart}
 use Rattle.pair_runs.specs.Sides.{SideState, TOKEN, fed, asked, all_loaded, wants, side_seen}
 use Rattle.pair_runs.specs.Sides.{rows_of, last_number, link_record}
-use Rattle.pair_runs.specs.Working.{Works, WorksInPart}
+use Rattle.pair_runs.specs.Whys.{RefusesMore, RefusesLine, RefusesPiece}
+use Rattle.pair_runs.specs.Working.{Works, InPart, WorksInPart}
 
 -- a proxy that runs on
 pub record RunsOn (t : TrailState) : Type 0 where
@@ -34,12 +36,14 @@ pub record RunsOn (t : TrailState) : Type 0 where
 -- an item of its peer
 abbrev pub FedWorks : Type 0
 FedWorks = (half : ℕ) (item : PeerIn) (old new : TrailState) → RunsOn old
+    → Admits (Fed item) old.now
     → TrailCalls (Fed item) (Ok tt) old new
     → Works false (fed item (side_seen half old)) (side_seen half new)
 
 -- a piece of what comes on the connection that is up
 abbrev pub CameWorks : Type 0
 CameWorks = (half : ℕ) (piece : List ℕ) (here : Here) (old new : TrailState) → RunsOn old
+    → Admits (Came piece) old.now
     → old.now.live.here ≡ Some here
     → TrailCalls (Came piece) (Ok tt) old new
     → Works true (read piece (side_seen half old)) (side_seen half new)
@@ -47,6 +51,7 @@ CameWorks = (half : ℕ) (piece : List ℕ) (here : Here) (old new : TrailState)
 -- the wish to close
 abbrev pub AsksWorks : Type 0
 AsksWorks = (half reason : ℕ) (old new : TrailState) → RunsOn old
+    → Admits (Asks reason) old.now
     → TrailCalls (Asks reason) (Ok tt) old new
     → Works false (asked (side_seen half old)) (side_seen half new)
 
@@ -95,6 +100,7 @@ HandedIs = (half : ℕ) (done : Done) (old new : TrailState) → RunsOn old
 -- or it is the last one.
 abbrev pub HandedWorks : Type 0
 HandedWorks = (half : ℕ) (done : Done) (old new : TrailState) → RunsOn old
+    → Admits (Handed done) old.now
     → all_back (handed done old.now.kept.jobs) ≡ true
     → TrailCalls (Handed done) (Ok tt) old new
     → Works false (all_loaded (side_seen half old)) (side_seen half new)
@@ -107,37 +113,45 @@ NoneOut = (half other : ℕ) (t : TrailState)
 
 -- ---- calls that meet a fault
 
--- a piece is read, or it is not, for one of two faults
-abbrev pub FailsInPart : ProxyFault → SideState → SideState → SideState → Type 0
-FailsInPart fault old done new = (RefusesPiece fault × WorksInPart old new) ⊎ WorksInPart done new
+-- a piece of so many bytes is read, or it is refused
+abbrev pub FailsInPart : ℕ → ProxyFault → SideState → SideState → SideState → Type 0
+FailsInPart size fault old done new =
+    (RefusesMore size fault new.book.trail × InPart old new)
+    ⊎ WorksInPart true None fault done new
 
 abbrev pub FedFails : Type 0
 FedFails = (half : ℕ) (item : PeerIn) (fault : ProxyFault) (old new : TrailState) → RunsOn old
+    → old.now.token ≡ TOKEN → Admits (Fed item) old.now
     → TrailCalls (Fed item) (Err fault) old new
-    → WorksInPart (fed item (side_seen half old)) (side_seen half new)
+    → WorksInPart false (Some item) fault (fed item (side_seen half old)) (side_seen half new)
 
 abbrev pub CameFails : Type 0
 CameFails = (half : ℕ) (piece : List ℕ) (here : Here) (fault : ProxyFault) (old new : TrailState)
-    → RunsOn old → old.now.live.here ≡ Some here
+    → RunsOn old → old.now.token ≡ TOKEN → Admits (Came piece) old.now
+    → old.now.live.here ≡ Some here
     → TrailCalls (Came piece) (Err fault) old new
-    → FailsInPart fault (side_seen half old) (read piece (side_seen half old)) (side_seen half new)
+    → FailsInPart (length piece) fault (side_seen half old) (read piece (side_seen half old))
+    (side_seen half new)
 
 abbrev pub AsksFails : Type 0
 AsksFails = (half reason : ℕ) (fault : ProxyFault) (old new : TrailState) → RunsOn old
+    → old.now.token ≡ TOKEN → Admits (Asks reason) old.now
     → TrailCalls (Asks reason) (Err fault) old new
-    → WorksInPart (asked (side_seen half old)) (side_seen half new)
+    → WorksInPart false None fault (asked (side_seen half old)) (side_seen half new)
 
 abbrev pub HandedFails : Type 0
 HandedFails = (half : ℕ) (done : Done) (fault : ProxyFault) (old new : TrailState) → RunsOn old
+    → old.now.token ≡ TOKEN → Admits (Handed done) old.now
     → TrailCalls (Handed done) (Err fault) old new
-    → WorksInPart (side_seen half old) (side_seen half new)
+    → WorksInPart false None fault (side_seen half old) (side_seen half new)
 
--- a connection has its line, or not
+-- a connection has its line, or not; and why it is refused
 abbrev pub UpFails : Type 0
 UpFails = (half connection : ℕ) (fault : ProxyFault) (old new : TrailState) → RunsOn old
     → old.now.live.here ≡ None
     → TrailCalls (Up connection) (Err fault) old new
     → LineInPart connection (side_seen half old) (side_seen half new)
+    × RefusesLine connection fault (side_seen half old).book.trail
 
 -- there is none above the greatest, and that is the one cause of its limit
 pub record UpLimits : Type 0 where
@@ -151,7 +165,8 @@ pub record UpLimits : Type 0 where
 abbrev pub LendsFails : Type 0
 LendsFails = (half : ℕ) (fault : ProxyFault) (old new : TrailState) → RunsOn old
     → Lends (Err fault) old new
-    → RefusesPiece fault × (side_seen half new ≡ side_seen half old)
+    → RefusesPiece fault (side_seen half new).book.trail
+    × (side_seen half new ≡ side_seen half old)
 
 -- the records of a side that has failed are lawful
 abbrev pub KeptByFault : Type 0

@@ -2,6 +2,7 @@
 
 ghost use Rattle.pair_runs.specs.Agreeing.{MovesTie, RunsAgree};
 ghost use Rattle.pair_runs.specs.Completing.{DrainedBringsAll};
+ghost use Rattle.pair_runs.specs.Faults.{FaultsAreCaused};
 ghost use Rattle.pair_runs.specs.Headline.{RunsTakeFirst, RunsReceive};
 ghost use Rattle.pair_runs.specs.Measure.{RoundFalls};
 ghost use Rattle.pair_runs.specs.MoreLaws.{WorksMore, ReadsMore, WritesMore, BeginsFirst};
@@ -15,6 +16,8 @@ ghost use Rattle.pair_runs.specs.WorkLaws.{LendsIs, SendsIs, WantsIs, NothingLen
 ghost use Rattle.pair_runs.specs.WorkLaws.{FedFails, CameFails, AsksFails};
 ghost use Rattle.pair_runs.specs.WorkLaws.{HandedFails, UpFails, UpLimits, LendsFails, KeptByFault};
 ghost use Rattle.pair_runs.specs.WorkLaws.{GaveWorks, LentIs, HandedIs, HandedWorks, NoneOut};
+ghost use Rattle.pair_runs.specs.WrongFaults.{BlamesNothing, BlamesOther, BlamesPipe, BlamesLink};
+ghost use Rattle.pair_runs.specs.WrongFaults.{LimitsFew, LimitsNone, MissesHandle, RefusesUnheard};
 ghost use Rattle.pair_runs.specs.WrongRuns.{SkipsBreak, ConnectsAgain, SkipsNumber, PushesLess};
 ghost use Rattle.pair_runs.specs.WrongRuns.{TakesFree, LoadsWhole, LeavesWaiting, HoldsOutput};
 ghost use Rattle.pair_runs.specs.WrongRuns.{OwesLoaded};
@@ -116,6 +119,13 @@ pub fn orders_are_allowed()
     ensures { RunsAreAllowed }
 {}
 
+/// Where a run ends with a fault its cause stands: at the message that the side's peer put behind
+/// those that the side's records say were taken, in the order of passing that they tell, or at an
+/// item that was put there; or the limit is passed by what would be next.
+pub fn faults_are_caused()
+    ensures { FaultsAreCaused }
+{}
+
 /// No run skips a break or the number of a connection, makes a connection while one is up, writes
 /// less than it is asked to while there is something to be sent, takes an item for nothing once all
 /// bytes asked for are taken, loads more words than it is asked to, leaves a whole message inside
@@ -131,4 +141,20 @@ pub fn wrong_runs()
     ensures leaves_waiting { LeavesWaiting }
     ensures holds_output { HoldsOutput }
     ensures owes_loaded { OwesLoaded }
+{}
+
+/// No run ends with a fault that blames a message where nothing was put, or another message than
+/// the one behind those that were taken, or the first one for want of a handle where one was put
+/// before it, or an item for a pipe where none was put; with a limit of
+/// connections where fewer were made, or one that no side has. And no move refuses a frame where
+/// none is heard, or a message where a connection is made.
+pub fn wrong_faults()
+    ensures blames_nothing { BlamesNothing }
+    ensures blames_other { BlamesOther }
+    ensures misses_handle { MissesHandle }
+    ensures blames_pipe { BlamesPipe }
+    ensures limits_few { LimitsFew }
+    ensures limits_none { LimitsNone }
+    ensures refuses_unheard { RefusesUnheard }
+    ensures blames_link { BlamesLink }
 {}

@@ -4,6 +4,6 @@
 mod laws;
 
 pub use laws::{
-    calls_compose, calls_fail, calls_show, calls_work, drained_brings_all, orders_are_allowed,
-    rounds_end, runs_agree, runs_keep, runs_receive, wrong_runs,
+    calls_compose, calls_fail, calls_show, calls_work, drained_brings_all, faults_are_caused,
+    orders_are_allowed, rounds_end, runs_agree, runs_keep, runs_receive, wrong_faults, wrong_runs,
 };

@@ -1,5 +1,5 @@
 -- A side stays ready while its peer does lines, and when it keeps frames.
-use Rattle.std.proofs.Common.{◌≡◌, ℕ, ◌-◌, ◌<◌, ℤ, List, [], ◌∷◌, ◌++◌, drop, map, length, Bool, true, false, not, cond, nat_lt, Option, Some, None, Result, Ok, Err, OnOk, refl, sym, ap, subst, ◌∙◌, arith, length-drop}
+use Rattle.std.proofs.Common.{◌≡◌, ℕ, ◌<◌, ℤ, List, [], ◌∷◌, ◌++◌, drop, map, length, Bool, true, false, not, cond, nat_lt, Option, Some, None, Result, Ok, Err, OnOk, refl, sym, ap, subst, ◌∙◌, arith, length-drop}
 use Rattle.std.proofs.lemmas.Bool.{ltb-true, ltb-false, cond_both}
 use Rattle.std.proofs.lemmas.List.{drop_all}
 use Rattle.std.specs.List.{AllByRecursion, cons_option}
@@ -11,21 +11,19 @@ use Rattle.receipt_laws.specs.Owning.{PutIsOwn}
 use Rattle.receipt_laws.specs.OwnLaws.{Grows}
 use Rattle.script_lang.specs.declared.steps.StepKind.{StepKind}
 use Rattle.script_lang.specs.declared.steps.StepKind.TheVariants as line
-use Rattle.script_peers.specs.Owning.{Owned, handle_of, note_on}
-use Rattle.script_peers.specs.Peers.{ScriptedPeer, did, acted, Acts}
-use Rattle.script_peers.specs.Putting.{note_if, wants_note, handle_items, said, is_pipe_piece, pipe_piece, is_own, items_by}
+use Rattle.script_peers.specs.Owning.{handle_of, note_on}
+use Rattle.script_peers.specs.Peers.{ScriptedPeer, did, Acts}
+use Rattle.script_peers.specs.Putting.{note_if, wants_note, handle_items, is_pipe_piece, is_own, items_by}
 use Rattle.script_peers.specs.Wires.{piece_of}
 use Rattle.script_peers.proofs.Keeping.{receipts_are_own}
-use Rattle.script_sides.specs.Ready.{OwnOf, IsSound, IsReady}
+use Rattle.script_sides.specs.Ready.{OwnOf, IsReady}
 use Rattle.script_sides.specs.Sided.{SideRun}
 use Rattle.script_sides.proofs.Sounds.{wire_more, sound_more}
 use Rattle.side_model.proofs.Sounds.{all_append}
 use Rattle.side_model.specs.Shows.{is_empty}
 use Rattle.transfer_frames.specs.declared.frame.Frame.{Frame}
 use Rattle.transfer_frames.specs.Grammar.{spelling}
-use Rattle.wl_tables.specs.declared.interface.Interface.{Interface}
 use Rattle.wl_wire.specs.Wire.{opcode_of}
-use Rattle.wp_outside.specs.declared.kinds.Side.{Side}
 use Rattle.wp_outside.specs.declared.pipe_items.PipeItem.TheVariants as pipe_items
 
 pub ok_more : {X E P Q : Type 0} (result : Result X E) → (P → Q) → OnOk result P → OnOk result Q

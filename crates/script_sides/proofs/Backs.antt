@@ -10,7 +10,7 @@ use Rattle.owed_groups.specs.Lending.{done_of}
 use Rattle.pair_runs.specs.Sides.{SideState, awaited, words_in, loaded_in, side_seen, all_loaded, words_left, last_number}
 use Rattle.pair_runs.specs.WorkLaws.{RunsOn}
 use Rattle.pair_runs.specs.Working.{Works, WorksInPart}
-use Rattle.pair_runs.proofs.Calling.{Ran, ran_by, quiet_still}
+use Rattle.pair_runs.proofs.Calling.{Ran, ran_by, after_event, quiet_still}
 use Rattle.pair_runs.proofs.Handing.{handed_is, handed_works, none_out}
 use Rattle.pair_runs.proofs.Failing.{handed_fails}
 use Rattle.pair_runs.proofs.Rowing.{row_works}
@@ -37,6 +37,8 @@ use Rattle.side_model.specs.Marks.{mark_grouped}
 use Rattle.side_model.specs.State.{Now}
 use Rattle.side_model.specs.Steps.{step}
 use Rattle.side_model.specs.Trails.{TrailState, Keeps, TrailCalls}
+use Rattle.side_model.specs.Sound.{HasLoads, Admits}
+use Rattle.side_model.proofs.Parts.{FollowsOn, follows_part}
 
 -- ---- what is handed back is awaited, and own
 
@@ -151,13 +153,13 @@ grown_group : (s : Now) (book : Book) (made : MadeGroup) → group_due s.live.se
 grown_group s book made due = ap (λ (found : Option MadeGroup). (marked_trail (mark_grouped found) book.trail).copies) due
 
 -- the copies of the group come to the records first
-group_grows : (s t : Now) (events : List Event) (book : Book) (made : MadeGroup) → hear s ≡ Rest → group_due s.live.sending.owes s.kept.jobs ≡ Some made → Part s events t → next t ≡ Rest
+group_grows : (s t : Now) (events : List Event) (book : Book) (made : MadeGroup) → FollowsOn s book → hear s ≡ Rest → group_due s.live.sending.owes s.kept.jobs ≡ Some made → Part s events t → next t ≡ Rest
     → length book.trail.copies + length made.copies ≤ length (grow_all events s book).trail.copies
-group_grows s t [] book made quiet due p rest = absurd (let never : Do Grouped ≡ Rest = sym (group_next s made quiet due) ∙ ap next (sym p) ∙ rest in cc)
-group_grows s t (x ∷ xs) book made quiet due p rest =
+group_grows s t [] book made f quiet due p rest = absurd (let never : Do Grouped ≡ Rest = sym (group_next s made quiet due) ∙ ap next (sym p) ∙ rest in cc)
+group_grows s t (x ∷ xs) book made f quiet due p rest =
     let is : x ≡ Grouped = cc_do (sym p.0 ∙ group_next s made quiet due) in
     let first : (grown x s book).trail.copies ≡ book.trail.copies ++ made.copies = ap (λ (it : Event). (grown it s book).trail.copies) is ∙ grown_group s book made due in
-    let front = (row_works 0 (step x s) t (grown x s book) xs p.1).trail.copies in
+    let front = (row_works 0 (step x s) t (grown x s book) xs (follows_part s (step x s) book (x ∷ []) f (p.0, refl)) p.1).trail.copies in
     omega (arith, ap length first, length-append book.trail.copies made.copies, ap length front.is, length-append (grown x s book).trail.copies front.rest)
   where
     cc_do : Do x ≡ Do Grouped → x ≡ Grouped
@@ -170,15 +172,15 @@ some_due (Some owed) jobs n e = (owed, ap (λ (b : Bool). if b then Some (made_o
 some_jobs : (job : Job) (jobs : List Job) → OneOut job jobs → 0 < length jobs
 some_jobs job jobs one = omega (arith, ap length one.row, length-append one.before (sent_out job ∷ one.after))
 
-last_grows : (job : Job) (done : Done) (old new : TrailState) → RunsOn old → CopiesAre (Some job) old.now → all_back (handed done old.now.kept.jobs) ≡ true → TrailCalls (Handed done) (Ok tt) old new
+last_grows : (job : Job) (done : Done) (old new : TrailState) → RunsOn old → Admits (Handed done) old.now → CopiesAre (Some job) old.now → all_back (handed done old.now.kept.jobs) ≡ true → TrailCalls (Handed done) (Ok tt) old new
     → length old.book.trail.copies < length new.book.trail.copies
 unfolding step
-last_grows job done old new r h e calls =
+last_grows job done old new r admits h e calls =
     let run : Ran (Handed done) old new = ran_by (Handed done) old new r calls in
     let s : Now = step (Handed done) old.now in
     let quiet : hear s ≡ Rest = quiet_still (Handed done) old.now (r.keeps.runs r.goes_on).rests refl in
     let due = some_due old.now.live.sending.owes (handed done old.now.kept.jobs) (λ none. some_out job old.now.kept.jobs h.one (h.owed none)) e in
-    let grows = group_grows s run.last run.events (grown (Handed done) old.now (closed old.book)) (made_of due.0 (handed done old.now.kept.jobs)) quiet due.1 run.row.0 run.row.1 in
+    let grows = group_grows s run.last run.events (grown (Handed done) old.now (closed old.book)) (made_of due.0 (handed done old.now.kept.jobs)) (after_event (Handed done) old r admits) quiet due.1 run.row.0 run.row.1 in
     let is : new.book.trail.copies ≡ (grow_all run.events s (grown (Handed done) old.now (closed old.book))).trail.copies = ap (λ (it : SideState). it.book.trail.copies) (run.is 0) in
     omega (arith, grows, ap length is, copies_count (handed done old.now.kept.jobs) e, handed_count done old.now.kept.jobs, some_jobs job old.now.kept.jobs h.one)
 
@@ -198,9 +200,9 @@ pub record HandsWhole (count : ℕ) (a b : SideState) : Type 0 where
 fits_eye : (job : Job) (eye : EyeState) → job.state ≡ Waits eye → JobFits job → (job.low ≡ eye.low) × (job.pool ≡ eye.number)
 fits_eye job eye e fits = subst (λ (state : JobState). FitsEye job.low job.pool state) e fits
 
-pub hands : (count : ℕ) (half : HalfState) (done : DoneState) (it : SideRun) (new : TrailState) → IsLast count half it → (d : IsDoneOf half done) → CopiesAre None new.now → TrailCalls (Handed (done_of done)) (Ok tt) it.trail new
+pub hands : (count : ℕ) (half : HalfState) (done : DoneState) (it : SideRun) (new : TrailState) → IsLast count half it → (d : IsDoneOf half done) → HasLoads (done_of done) → CopiesAre None new.now → TrailCalls (Handed (done_of done)) (Ok tt) it.trail new
     → HandsPart count (state_of (before count half it)) (side_seen 0 new) ⊎ HandsWhole count (state_of (before count half it)) (side_seen 0 new)
-hands count half done it new last d none calls = by_back (all_back one.before && all_back one.after) refl
+hands count half done it new last d loads none calls = by_back (all_back one.before && all_back one.after) refl
   where
     back : Returns count half done it
     back = returns_of count half done it last d
@@ -252,9 +254,9 @@ hands count half done it new last d none calls = by_back (all_back one.before &&
             some = last.some;
             works =
                 subst (λ (b : SideState). Works false (all_loaded (side_seen was it.trail)) b) (none_out was 0 new none.one)
-                (handed_works was (done_of done) it.trail new r (all ∙ e) calls);
+                (handed_works was (done_of done) it.trail new r (back.awaited, loads) (all ∙ e) calls);
           };
-          more = last_grows job (done_of done) it.trail new r back.out.copies (all ∙ e) calls;
+          more = last_grows job (done_of done) it.trail new r (back.awaited, loads) back.out.copies (all ∙ e) calls;
         })
 
 -- ---- the call
@@ -274,16 +276,16 @@ leaves_by : (count : ℕ) (a b : SideState) → HandsPart count a b ⊎ HandsWho
 leaves_by count a b (inl h) = record { rows = ap (λ (it : SideState). last_number it.book.trail.lines.rows) h.part.is; asked = ap (λ (it : SideState). it.inside.asked) h.part.is }
 leaves_by count a b (inr h) = record { rows = ap (λ lines. last_number lines.rows) h.whole.works.trail.lines; asked = h.whole.works.inside.asked }
 
-pub handed_sound : (count : ℕ) (half : HalfState) (done : DoneState) (it : SideRun) (new : TrailState) → IsLast count half it → (d : IsDoneOf half done) → Keeps new → TrailCalls (Handed (done_of done)) (Ok tt) it.trail new
+pub handed_sound : (count : ℕ) (half : HalfState) (done : DoneState) (it : SideRun) (new : TrailState) → IsLast count half it → (d : IsDoneOf half done) → HasLoads (done_of done) → Keeps new → TrailCalls (Handed (done_of done)) (Ok tt) it.trail new
     → IsSound (called new None it.asked it)
 unfolding step
-handed_sound count half done it new last d k calls =
+handed_sound count half done it new last d loads k calls =
     let event : Event = Handed (done_of done) in
     let back : Returns count half done it = returns_of count half done it last d in
     let s : IsSound (before count half it) = last.ready.sound in
     let r : RunsOn new = goes_on event it.trail new s.runs k calls in
     let none : CopiesAre None new.now = handed_on count half done it new last d k calls in
-    let leaves : Leaves (state_of (before count half it)) (side_seen 0 new) = leaves_by count (state_of (before count half it)) (side_seen 0 new) (hands count half done it new last d none calls) in
+    let leaves : Leaves (state_of (before count half it)) (side_seen 0 new) = leaves_by count (state_of (before count half it)) (side_seen 0 new) (hands count half done it new last d loads none calls) in
     sound_call (before count half it) new None it.asked s (record {
       kin = call_kin event it.trail new s.runs (handed_kin event it.trail.now refl refl) calls;
       runs = r;
@@ -294,16 +296,16 @@ handed_sound count half done it new last d k calls =
     })
 
 -- one that fails
-pub handed_stops : (count : ℕ) (half : HalfState) (done : DoneState) (fault : ProxyFault) (it : SideRun) (new : TrailState) → IsLast count half it → (d : IsDoneOf half done) → TrailCalls (Handed (done_of done)) (Err fault) it.trail new
-    → LoadStops (state_of (before count half it)) (side_seen 0 new)
-handed_stops count half done fault it new last d calls =
+pub handed_stops : (count : ℕ) (half : HalfState) (done : DoneState) (fault : ProxyFault) (it : SideRun) (new : TrailState) → IsLast count half it → (d : IsDoneOf half done) → HasLoads (done_of done) → TrailCalls (Handed (done_of done)) (Err fault) it.trail new
+    → LoadStops fault (state_of (before count half it)) (side_seen 0 new)
+handed_stops count half done fault it new last d loads calls =
     let back : Returns count half done it = returns_of count half done it last d in
     let was : ℕ = half.loaded - count in
     record {
       awaits = out_awaits was back.out.job it.trail back.out.copies;
       part =
-          let part : WorksInPart (side_seen was it.trail) (side_seen was new) = handed_fails was (done_of done) fault it.trail new last.ready.sound.runs calls in
-          record { took = part.took; messages = part.messages; bytes = part.bytes; trail = part.trail; order = part.order };
+          let part : WorksInPart false None fault (side_seen was it.trail) (side_seen was new) = handed_fails was (done_of done) fault it.trail new last.ready.sound.runs last.ready.sound.token (back.awaited, loads) calls in
+          record { part = record { took = part.part.took; messages = part.part.messages; bytes = part.part.bytes; trail = part.part.trail; order = part.part.order }; why = part.why };
     }
 
 -- ---- between two calls

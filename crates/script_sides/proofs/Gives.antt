@@ -1,19 +1,14 @@
 -- What it comes to that a proxy gives its peer an item.
-use Rattle.std.proofs.Common.{◌≡◌, ℕ, ◌+◌, ◌<◌, List, [], ◌∷◌, ◌++◌, drop, length, Bool, true, false, Option, Some, None, refl, sym, ap, subst, ◌∙◌, arith}
+use Rattle.std.proofs.Common.{◌≡◌, ℕ, ◌+◌, ◌<◌, List, [], ◌∷◌, ◌++◌, drop, length, true, false, Some, None, refl, sym, ap, subst, ◌∙◌, arith}
 use Rattle.std.specs.List.{AllByRecursion}
 use Rattle.std.specs.Option.{MatchOption}
-use Rattle.std.specs.Prelude.{is_some}
 use Rattle.half_model.specs.declared.items.PeerIn.{PeerIn}
 use Rattle.half_model.specs.declared.items.PeerOut.{PeerOut}
 use Rattle.half_model.specs.declared.items.PeerOut.TheVariants as outputs
 use Rattle.half_model.specs.declared.notes.CopyRecord.{CopyRecord}
-use Rattle.half_model.specs.Jobs.{Job}
-use Rattle.pair_runs.specs.Sides.{SideState, side_seen}
 use Rattle.pair_runs.specs.WorkLaws.{RunsOn}
-use Rattle.pair_runs.specs.Working.{Works}
 use Rattle.pair_runs.proofs.Composing.{works_same, works_then}
 use Rattle.pair_runs.proofs.Handing.{gave_works}
-use Rattle.receipt_laws.specs.Lending.{CopiesAre}
 use Rattle.receipt_laws.specs.Owning.{GivenIsOwn, PutIsOwn}
 use Rattle.receipt_laws.specs.OwnLaws.{Grows}
 use Rattle.receipt_laws.proofs.Calls.{steps_keep_own, gives_own}
@@ -21,13 +16,13 @@ use Rattle.receipt_laws.proofs.OutCalls.{steps_leave}
 use Rattle.script_peers.specs.Peers.{ScriptedPeer, gave, IsForPeer}
 use Rattle.script_peers.proofs.Keeping.{receipts_are_own}
 use Rattle.script_sides.specs.Giving.{less, given, GivesNext, to_give, Gives}
-use Rattle.script_sides.specs.Ready.{OwnOf, HalfFits, IsSound, IsReady}
-use Rattle.script_sides.specs.Sided.{SideRun, state_of, half_loaded, is_up}
-use Rattle.script_sides.proofs.Kins.{Kin, gave_kin}
+use Rattle.script_sides.specs.Ready.{OwnOf, IsSound, IsReady}
+use Rattle.script_sides.specs.Sided.{SideRun, state_of, half_loaded}
+use Rattle.script_sides.proofs.Kins.{gave_kin}
 use Rattle.script_sides.proofs.Links.{running}
-use Rattle.script_sides.proofs.Sounds.{half_stays, CallsOn, sound_call, sound_more, wire_more}
+use Rattle.script_sides.proofs.Sounds.{half_stays, sound_call, sound_more, wire_more}
 use Rattle.side_model.specs.Events.{Gave}
-use Rattle.side_model.specs.Follows.{is_message, IsReceiptOf, AreReceipts}
+use Rattle.side_model.specs.Follows.{is_message, AreReceipts}
 use Rattle.side_model.specs.Shows.{first_item, next_item}
 use Rattle.side_model.specs.State.{LivePart}
 use Rattle.side_model.specs.Steps.{step, gone}

@@ -1,7 +1,6 @@
 -- What the calls of a proxy with its records leave as it was: its side, its token, the number of its last connection, and whether one is up.
-use Rattle.std.proofs.Common.{◌≡◌, ℕ, List, [], ◌∷◌, ◌++◌, Option, Some, None, Result, Ok, Err, refl, sym, ap, subst, ◌∙◌, inl, inr, ◌⊎◌}
-use Rattle.std.specs.Prelude.{is_some, Bool, true}
-use Rattle.wp_outside.specs.declared.kinds.Side.{Side}
+use Rattle.std.proofs.Common.{◌≡◌, ℕ, List, [], ◌∷◌, ◌++◌, Option, Some, None, Ok, Err, refl, ap, subst, ◌∙◌, inl, inr}
+use Rattle.std.specs.Prelude.{is_some}
 use Rattle.half_model.specs.declared.items.PeerIn.{PeerIn}
 use Rattle.half_model.specs.declared.items.PeerIn.TheVariants as inputs
 use Rattle.half_model.specs.declared.items.PeerOut.{PeerOut}
@@ -18,10 +17,10 @@ use Rattle.pair_runs.proofs.Calling.{Ran, ran_by, fed_here}
 use Rattle.proxy_trail.proofs.Calling.{up_changed, up_part}
 use Rattle.side_model.specs.declared.fault.ProxyFault.{ProxyFault}
 use Rattle.side_model.specs.Calls.{Part}
-use Rattle.side_model.specs.Events.{Event, Fed, Handed, Lent, Up, Down, Came, Went, Gave, Asks, Told, Heard, Took, Grouped, Ended, Chose}
+use Rattle.side_model.specs.Events.{Event, Fed, Came, Gave}
 use Rattle.side_model.specs.State.{Now, Closing, Open, Asked, Made}
 use Rattle.side_model.specs.Steps.{step, fed_pipe, gone, took, grouped, ended}
-use Rattle.side_model.specs.Trails.{TrailState, TrailAfter, TrailCalls, FailsNow, FailsSo, HeavyAtOnce, HeavyThen, Failed, FailedAtOnce, NoMemory, Sends, NotLent, LendsAfter, Lends}
+use Rattle.side_model.specs.Trails.{TrailState, TrailAfter, TrailCalls, FailsNow, FailsSo, HeavyAtOnce, HeavyThen, Failed, FailedAtOnce, NoMemory, NotLent, LendsAfter, Lends}
 use Rattle.side_model.proofs.Dues.{DueIn, InHear, InGroup, InTreat, InEnd, InChoose, due_in, frame_due, group_is_due, turn_due, end_is_due, choice_due}
 use Rattle.side_model.proofs.Parts.{SameProxy, same_then, same_step, same_part}
 use Rattle.side_model.proofs.TrailParts.{ran, same_ran}

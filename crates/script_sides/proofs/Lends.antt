@@ -1,5 +1,5 @@
 -- What it comes to that the next copy is lent.
-use Rattle.std.proofs.Common.{◌≡◌, ◌≢◌, ℕ, ◌<◌, List, [], ◌∷◌, map, length, Bool, true, false, ◌&&◌, cond, Option, Some, None, refl, sym, ap, subst, ◌∙◌, arith, if◌then◌else◌}
+use Rattle.std.proofs.Common.{◌≡◌, ◌<◌, List, [], ◌∷◌, map, Bool, true, false, ◌&&◌, cond, Option, Some, None, refl, sym, ap, subst, ◌∙◌, arith, if◌then◌else◌}
 use Rattle.std.specs.List.{AllByRecursion}
 use Rattle.std.specs.Option.{MatchOption}
 use Rattle.copy_workers.specs.Copies as copies
@@ -7,7 +7,7 @@ use Rattle.copy_workers.specs.declared.copies.CopyJob.{CopyJob}
 use Rattle.half_model.specs.Group.{Owed}
 use Rattle.half_model.specs.Jobs.{Job, JobState, Waits, IsOut, IsBack, waits, is_out, is_back, first_waiting, all_back}
 use Rattle.owed_groups.specs.Lending.{Lends, IsLentFor}
-use Rattle.pair_runs.specs.Sides.{SideState, awaited, words_in, side_seen}
+use Rattle.pair_runs.specs.Sides.{awaited, words_in, side_seen}
 use Rattle.pair_runs.specs.WorkLaws.{RunsOn}
 use Rattle.pair_runs.proofs.Handing.{lent_is}
 use Rattle.pool_words.specs.Views.{EyeState}
@@ -15,14 +15,13 @@ use Rattle.receipt_laws.specs.Lending.{IsIn, CopiesAre}
 use Rattle.receipt_laws.proofs.Calls.{first_has, steps_keep_own, lent_is_own}
 use Rattle.receipt_laws.proofs.OutCalls.{calls_lend}
 use Rattle.script_sides.specs.Halves.{HalfState, unused, half_of}
-use Rattle.script_sides.specs.Progressing.{LoadsNothing, with_half, BeginsCopy, BeginsNone, Begins}
+use Rattle.script_sides.specs.Progressing.{BeginsCopy, BeginsNone, Begins}
 use Rattle.script_sides.specs.Ready.{OwnOf, HalfFits, IsSound, IsReady}
 use Rattle.script_sides.specs.Sided.{SideRun, state_of, half_loaded}
-use Rattle.script_sides.proofs.Links.{running, with_trail}
+use Rattle.script_sides.proofs.Links.{with_trail}
 use Rattle.script_sides.proofs.Words.{JobHas, follow_have}
 use Rattle.side_model.specs.Events.{Lent}
 use Rattle.side_model.specs.Follows.{JobsFollow}
-use Rattle.side_model.specs.State.{Now}
 use Rattle.side_model.specs.Steps.{step}
 use Rattle.side_model.specs.Trails.{TrailState, Keeps, trail_step}
 

@@ -1,43 +1,29 @@
 -- What the calls of a side's connection leave, and where a side begins.
-use Rattle.std.proofs.Common.{◌≡◌, ◌≢◌, ℕ, ◌+◌, ◌<◌, ◌≤◌, List, [], ◌∷◌, ◌++◌, take, drop, map, length, Bool, true, false, not, Option, Some, None, Result, Ok, Err, OnOk, refl, sym, ap, subst, ◌∙◌, arith, nat_lt, length-drop, inl, inr, ◌⊎◌}
-use Rattle.std.proofs.lemmas.Bool.{ltb-true, ltb-false}
-use Rattle.std.proofs.lemmas.List.{drop_all}
-use Rattle.std.specs.List.{AllByRecursion}
+use Rattle.std.proofs.Common.{◌≡◌, ℕ, ◌≤◌, List, [], ◌∷◌, take, length, true, false, Option, Some, None, Result, Ok, Err, OnOk, refl, sym, ap, subst, ◌∙◌, arith, inl, inr, IfErr}
 use Rattle.std.specs.Option.{MatchOption}
 use Rattle.std.specs.Prelude.{is_some}
 use Rattle.wp_outside.specs.declared.kinds.Side.{Side}
-use Rattle.half_model.specs.declared.causes.Limit.TheVariants.{Connections}
-use Rattle.half_model.specs.declared.items.PeerIn.{PeerIn}
-use Rattle.half_model.specs.declared.items.PeerIn.TheVariants as items
-use Rattle.half_model.specs.Jobs.{Job}
-use Rattle.pair_model.specs.Lines.{Line}
 use Rattle.pair_model.specs.Steps.{Here, here_sent}
-use Rattle.pair_runs.specs.Linking.{with_line, written, read}
-use Rattle.pair_runs.specs.Moves.{LineInPart}
+use Rattle.pair_runs.specs.Linking.{written}
 use Rattle.pair_runs.specs.Sides.{SideState, TOKEN, rows_of, last_number, side_seen}
 use Rattle.pair_runs.specs.WorkLaws.{RunsOn}
-use Rattle.pair_runs.specs.Working.{Works}
-use Rattle.pair_runs.proofs.Calling.{Ran, ran_by, up_is, down_is, lends_is, sends_is}
-use Rattle.pair_runs.proofs.Failing.{up_fails, up_limits}
+use Rattle.pair_runs.proofs.Calling.{Ran, ran_by, up_is, down_is, sends_is}
+use Rattle.pair_runs.proofs.Refusing.{up_fails, up_limits, lends_fails}
+use Rattle.pair_runs.specs.Whys.{RefusesPiece}
 use Rattle.pair_runs.proofs.Showing.{nothing_lent}
 use Rattle.proxy_trail.specs.Kept.{lent_bytes}
 use Rattle.proxy_trail.proofs.Calling.{up_changed}
-use Rattle.receipt_laws.specs.Lending.{CopiesAre}
-use Rattle.receipt_laws.specs.Owning.{AllOwn}
-use Rattle.receipt_laws.proofs.Calls.{own_at_first, calls_keep_own, steps_keep_own, sends_keep_own, lends_keep_own}
-use Rattle.receipt_laws.proofs.OutCalls.{none_out_at_first, calls_leave, steps_leave, sends_leave, lends_leave}
-use Rattle.script_sides.specs.Answering.{Stays, Stops, Leaves}
+use Rattle.receipt_laws.proofs.Calls.{own_at_first, calls_keep_own, steps_keep_own, sends_keep_own}
+use Rattle.receipt_laws.proofs.OutCalls.{none_out_at_first, calls_leave, steps_leave, sends_leave}
+use Rattle.script_sides.specs.Answering.{Stays, Leaves}
 use Rattle.script_sides.specs.Linked.{LinesUp, UpIsLimited, IsUp, LeavesUp, HasNoFront}
 use Rattle.script_sides.specs.Ready.{OwnOf, IsSound, IsReady}
 use Rattle.script_sides.specs.Sided.{SideRun, state_of, first_run, half_loaded, is_up, lent_of, room_of}
-use Rattle.script_sides.proofs.Kins.{Kin, Fell, kin_then, part_kin, call_fell, lend_fell, last_written, last_up}
-use Rattle.script_sides.proofs.Sounds.{half_stays, CallsOn, goes_on, sound_call, stopped}
+use Rattle.script_sides.proofs.Kins.{Kin, kin_then, part_kin, call_fell, lend_fell, last_written, last_up}
+use Rattle.script_sides.proofs.Sounds.{half_stays, goes_on, sound_call, stopped}
 use Rattle.side_model.specs.declared.fault.ProxyFault.{ProxyFault}
-use Rattle.side_model.specs.declared.fault.ProxyFault.TheVariants.{Memory, Limit}
-use Rattle.side_model.specs.Books.{closed}
-use Rattle.side_model.specs.Calls.{Part, MOST_CONNECTIONS}
-use Rattle.side_model.specs.Due.{next}
-use Rattle.side_model.specs.Events.{Event, Up, Down, Went, Chose, Rest}
+use Rattle.side_model.specs.Calls.{Part}
+use Rattle.side_model.specs.Events.{Event, Up, Down, Went, Chose}
 use Rattle.side_model.specs.RowLaws.{AtMostChose}
 use Rattle.side_model.specs.Shows.{front_of, front_here, unless_fault}
 use Rattle.side_model.specs.Sound.{Admits}
@@ -169,6 +155,11 @@ room_made it new h lends =
 pub room_lent : (it : SideRun) (new : TrailState) (result : Result Unit ProxyFault) → IsReady it → Lends result it.trail new → OnOk result (lent_of (with_trail new it) ≡ lent_of it)
 room_lent it new (Ok done) h lends = ap lent_bytes (room_made it new h lends)
 room_lent it new (Err fault) h lends = tt
+
+-- why none is made
+pub room_refuses : (it : SideRun) (new : TrailState) (result : Result Unit ProxyFault) → IsReady it → Lends result it.trail new → IfErr result (λ fault. RefusesPiece fault (state_of (with_trail new it)).book.trail)
+room_refuses it new (Ok done) h lends = tt
+room_refuses it new (Err fault) h lends = (lends_fails (half_loaded it.half) fault it.trail new h.sound.runs lends).0
 
 pub room_leaves : (it : SideRun) (new : TrailState) (result : Result Unit ProxyFault) → IsReady it → Keeps new → Lends result it.trail new → Leaves result it (with_trail new it)
 room_leaves it new (Ok done) h k lends =

@@ -1,9 +1,9 @@
 -- What steps of loading come to one after another.
-use Rattle.std.proofs.Common.{◌≡◌, ◌≢◌, ℕ, zero, suc, ◌+◌, ◌-◌, ◌*◌, ◌<◌, ◌≤◌, List, [], ◌∷◌, length, Bool, true, false, Option, Some, None, Result, Ok, Err, refl, sym, ap, subst, ◌∙◌, arith, length-append, inl, inr, ◌⊎◌}
+use Rattle.std.proofs.Common.{◌≡◌, ◌≢◌, ℕ, zero, suc, ◌+◌, ◌-◌, ◌<◌, ◌≤◌, List, [], ◌∷◌, length, Bool, true, false, Option, Some, None, refl, sym, ap, subst, ◌∙◌, arith, length-append, inl, inr, ◌⊎◌}
 use Rattle.std.specs.List.{AllByRecursion}
 use Rattle.std.specs.Prelude.{sum}
 use Rattle.wl_wire.specs.Wire.{joined, IsMessage}
-use Rattle.pair_runs.specs.Loading.{LoadFails, LoadGoes, LoadsLast, LoadsIn, Loads, LoadsAllIn, LoadsAll}
+use Rattle.pair_runs.specs.Loading.{LoadFails, LoadGoes, LoadsLast, LoadsIn, Loads, LoadsAll}
 use Rattle.pair_runs.specs.Measure.{copies_left}
 use Rattle.pair_runs.specs.Sides.{SideState, all_loaded, words_left}
 use Rattle.pair_runs.specs.Working.{Works, WorksInPart}
@@ -21,8 +21,8 @@ use Rattle.wp_outside.specs.declared.kinds.Side.{Side}
 abbrev pub further : ℕ → SideState → SideState
 further count a = record a { loaded = a.loaded + count }
 
-part_further : (count : ℕ) (a b : SideState) → WorksInPart (further count a) b → WorksInPart a b
-part_further count a b p = record { took = p.took; messages = p.messages; bytes = p.bytes; trail = p.trail; order = p.order }
+part_further : (count : ℕ) (fault : ProxyFault) (a b : SideState) → WorksInPart false None fault (further count a) b → WorksInPart false None fault a b
+part_further count fault a b p = record { part = record { took = p.part.took; messages = p.part.messages; bytes = p.part.bytes; trail = p.part.trail; order = p.part.order }; why = p.why }
 
 no_words : (a : SideState) (count : ℕ) → count < words_left a → a.copies ≡ [] → ⊥
 no_words a count l e = absurd (omega (arith, l, ap sum e))
@@ -42,7 +42,7 @@ row_further (suc n) words count a c over stop some few left h = (omega (arith, s
   where
     by_case : LoadFails (further count a) c stop ⊎ ((words_left (further count a) ≤ words - count) × LoadGoes (further count a) (λ mid. LoadsIn n ((words - count) - words_left (further count a)) mid c over stop))
         → LoadFails a c stop ⊎ ((words_left a ≤ words) × LoadGoes a (λ mid. LoadsIn n (words - words_left a) mid c over stop))
-    by_case (inl fails) = inl (record { fault = fails.fault; stops = fails.stops; part = part_further count a c fails.part })
+    by_case (inl fails) = inl (record { fault = fails.fault; stops = fails.stops; part = part_further count fails.fault a c fails.part })
     by_case (inr goes) =
         inr (
           omega (arith, goes.0, few, left),
@@ -71,7 +71,7 @@ whole_more words count a b c over stop p all = record {
   );
 }
 
-pub stops_there : (words : ℕ) (a b : SideState) (fault : ProxyFault) → 0 < words → LoadStops a b → Loads words a b 0 (Some fault)
+pub stops_there : (words : ℕ) (a b : SideState) (fault : ProxyFault) → 0 < words → LoadStops fault a b → Loads words a b 0 (Some fault)
 stops_there words a b fault some h = record { count = 1; row = (some, h.awaits, inl (record { fault = fault; stops = refl; part = h.part })) }
 
 pub none_awaited : (words : ℕ) (a b : SideState) → LoadsNothing a b → Loads words a b words None
@@ -117,12 +117,12 @@ partly_nothing a b c h p = elim h.begun [
   | inr some ↦ absurd (some (sym (copies_of a b h.is) ∙ p.awaits))
 ]
 
-pub partly_stops : (a b c : SideState) → Partly a b → LoadStops b c → LoadStops a c
-partly_stops a b c h p = record {
+pub partly_stops : (fault : ProxyFault) (a b c : SideState) → Partly a b → LoadStops fault b c → LoadStops fault a c
+partly_stops fault a b c h p = record {
   awaits = λ e. p.awaits (copies_of a b h.is ∙ e);
   part =
-      let part : WorksInPart (record a { loaded = b.loaded }) c = subst (λ (it : SideState). WorksInPart it c) h.is p.part in
-      record { took = part.took; messages = part.messages; bytes = part.bytes; trail = part.trail; order = part.order };
+      let part : WorksInPart false None fault (record a { loaded = b.loaded }) c = subst (λ (it : SideState). WorksInPart false None fault it c) h.is p.part in
+      record { part = record { took = part.part.took; messages = part.part.messages; bytes = part.part.bytes; trail = part.part.trail; order = part.part.order }; why = part.why };
 }
 
 pub part_less : (most count : ℕ) (a b : SideState) → LoadsPart most count a b → words_left b < words_left a
@@ -133,7 +133,7 @@ part_less most count a b p = omega (arith, ap words_left p.is, p.some, p.left)
 pub rest_more : (a b c : SideState) (stop : Option ProxyFault) → LoadsRest a b → LoadsAll b c stop → LoadsAll a c stop
 rest_more a b c stop p all = record { count = suc all.count; row = (p.awaits, inr (record { mid = b; works = p.works; more = all.row })) }
 
-pub all_stops : (a b : SideState) (fault : ProxyFault) → LoadStops a b → LoadsAll a b (Some fault)
+pub all_stops : (a b : SideState) (fault : ProxyFault) → LoadStops fault a b → LoadsAll a b (Some fault)
 all_stops a b fault h = record { count = 1; row = (h.awaits, inl (record { fault = fault; stops = refl; part = h.part })) }
 
 pub all_nothing : (a b : SideState) → LoadsNothing a b → LoadsAll a b None
@@ -144,7 +144,7 @@ AllOnward a b = (c : SideState) (stop : Option ProxyFault) → LoadsAll b c stop
 
 -- a message that is taken is longer than its copies count
 abbrev pub to_load : SideState → ℕ
-to_load it = length it.inside.bytes + copies_left it.copies
+to_load it = length it.inside.inlet.bytes + copies_left it.copies
 
 some_left : (copies : List ℕ) → copies ≢ [] → copies_left copies ≡ 1
 some_left [] n = absurd (n refl)
@@ -157,7 +157,7 @@ most_left (words ∷ copies) = omega arith
 joined_long : (message : List ℕ) (took : List (List ℕ)) → IsMessage message → 8 ≤ length (joined (message ∷ took))
 joined_long message took h = omega (arith, length-append message (joined took), h.has_header)
 
-took_less : (took : List (List ℕ)) (a b : SideState) → AllByRecursion IsMessage took → length a.inside.bytes ≡ length (joined took) + length b.inside.bytes
+took_less : (took : List (List ℕ)) (a b : SideState) → AllByRecursion IsMessage took → length a.inside.inlet.bytes ≡ length (joined took) + length b.inside.inlet.bytes
     → (took ≡ [] → b.copies ≡ []) → a.copies ≢ [] → to_load b < to_load a
 took_less [] a b h e none some = omega (arith, e, ap copies_left (none refl), some_left a.copies some)
 took_less (message ∷ took) a b h e none some = omega (arith, e, joined_long message took h.0, most_left b.copies)
@@ -165,7 +165,7 @@ took_less (message ∷ took) a b h e none some = omega (arith, e, joined_long me
 pub rest_less : (a b : SideState) → LoadsRest a b → to_load b < to_load a
 rest_less a b p =
     took_less p.works.took a b p.works.inside.messages
-    (ap length p.works.inside.bytes ∙ length-append (joined p.works.took) b.inside.bytes) (λ e. (p.works.awaits.stay e).0) p.awaits
+    (ap length p.works.inside.inlet.bytes ∙ length-append (joined p.works.took) b.inside.inlet.bytes) (λ e. (p.works.awaits.stay e).0) p.awaits
 
 -- ---- sides
 
@@ -204,7 +204,7 @@ loading_whole words left count old it new h p stays wire = record {
 pub loading_nothing : (words left : ℕ) (old it new : SideRun) → Loading words old left it → LoadsNothing (state_of it) (state_of new) → Loads words (state_of old) (state_of new) left None
 loading_nothing words left old it new h p = h.on (state_of new) left None (none_awaited left (state_of it) (state_of new) p)
 
-pub loading_stops : (words left : ℕ) (old it new : SideRun) (fault : ProxyFault) → Loading words old left it → 0 < left → LoadStops (state_of it) (state_of new) → Loads words (state_of old) (state_of new) 0 (Some fault)
+pub loading_stops : (words left : ℕ) (old it new : SideRun) (fault : ProxyFault) → Loading words old left it → 0 < left → LoadStops fault (state_of it) (state_of new) → Loads words (state_of old) (state_of new) 0 (Some fault)
 loading_stops words left old it new fault h some p = h.on (state_of new) 0 (Some fault) (stops_there left (state_of it) (state_of new) fault some p)
 
 pub loading_ends : (words left : ℕ) (old it : SideRun) → Loading words old left it → left ≡ 0 → (state_of it).copies ≡ [] ⊎ (0 < words_left (state_of it)) → Loads words (state_of old) (state_of it) 0 None

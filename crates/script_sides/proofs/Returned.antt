@@ -19,14 +19,15 @@ use Rattle.side_model.specs.declared.fault.ProxyFault.{ProxyFault}
 use Rattle.side_model.specs.Events.{Event, Handed}
 use Rattle.side_model.specs.Steps.{step}
 use Rattle.side_model.specs.Trails.{TrailState, Keeps, TrailCalls}
+use Rattle.side_model.specs.Sound.{HasLoads}
 
 -- ---- a call that fails
 
-pub back_stops : (count : ℕ) (half : HalfState) (done : DoneState) (fault : ProxyFault) (it : SideRun) (new : TrailState) → IsLast count half it → IsDoneOf half done → TrailCalls (Handed (done_of done)) (Err fault) it.trail new
-    → LoadStops (state_of (before count half it)) (state_of (with_trail new it))
-back_stops count half done fault it new last d calls =
-    subst (λ (out : Option HalfState). LoadStops (state_of (before count half it)) (side_seen (half_loaded out) new)) (sym last.none)
-    (handed_stops count half done fault it new last d calls)
+pub back_stops : (count : ℕ) (half : HalfState) (done : DoneState) (fault : ProxyFault) (it : SideRun) (new : TrailState) → IsLast count half it → IsDoneOf half done → HasLoads (done_of done) → TrailCalls (Handed (done_of done)) (Err fault) it.trail new
+    → LoadStops fault (state_of (before count half it)) (state_of (with_trail new it))
+back_stops count half done fault it new last d loads calls =
+    subst (λ (out : Option HalfState). LoadStops fault (state_of (before count half it)) (side_seen (half_loaded out) new)) (sym last.none)
+    (handed_stops count half done fault it new last d loads calls)
 
 pub back_fell : (count : ℕ) (half : HalfState) (done : DoneState) (fault : ProxyFault) (it : SideRun) (new : TrailState) → IsLast count half it → Keeps new → TrailCalls (Handed (done_of done)) (Err fault) it.trail new
     → Stops it (with_trail new it) fault
@@ -37,10 +38,10 @@ back_fell count half done fault it new last k calls =
 
 -- ---- a good one
 
-pub back_sound : (count : ℕ) (half : HalfState) (done : DoneState) (it : SideRun) (new : TrailState) → IsLast count half it → IsDoneOf half done → Keeps new → TrailCalls (Handed (done_of done)) (Ok tt) it.trail new
+pub back_sound : (count : ℕ) (half : HalfState) (done : DoneState) (it : SideRun) (new : TrailState) → IsLast count half it → IsDoneOf half done → HasLoads (done_of done) → Keeps new → TrailCalls (Handed (done_of done)) (Ok tt) it.trail new
     → IsSound (with_trail new it)
-back_sound count half done it new last d k calls =
-    subst (λ (out : Option HalfState). IsSound (called new out it.asked it)) (sym last.none) (handed_sound count half done it new last d k calls)
+back_sound count half done it new last d loads k calls =
+    subst (λ (out : Option HalfState). IsSound (called new out it.asked it)) (sym last.none) (handed_sound count half done it new last d loads k calls)
 
 -- behind it all that was made is given
 pub back_stays : (count : ℕ) (half : HalfState) (done : DoneState) (it : SideRun) (new : TrailState) (end : SideRun) → IsLast count half it → TrailCalls (Handed (done_of done)) (Ok tt) it.trail new
@@ -51,15 +52,15 @@ back_stays count half done it new end last calls gives ready =
     let kin : Kin it.trail.now new.now = call_kin event it.trail new last.ready.sound.runs (handed_kin event it.trail.now refl refl) calls in
     record { ready = ready; side = gives.side; up = gives.up ∙ kin.up }
 
-pub back_hands : (count : ℕ) (half : HalfState) (done : DoneState) (it : SideRun) (new : TrailState) (end : SideRun) → IsLast count half it → IsDoneOf half done → Keeps new → TrailCalls (Handed (done_of done)) (Ok tt) it.trail new
+pub back_hands : (count : ℕ) (half : HalfState) (done : DoneState) (it : SideRun) (new : TrailState) (end : SideRun) → IsLast count half it → IsDoneOf half done → HasLoads (done_of done) → Keeps new → TrailCalls (Handed (done_of done)) (Ok tt) it.trail new
     → Gives (with_trail new it) end
     → HandsPart count (state_of (before count half it)) (state_of end) ⊎ HandsWhole count (state_of (before count half it)) (state_of end)
-back_hands count half done it new end last d k calls gives =
+back_hands count half done it new end last d loads k calls gives =
     let none : CopiesAre None new.now = handed_on count half done it new last d k calls in
     let items : new.now.live.items ≡ [] = gives_no_more.handed (done_of done) it.trail new last.ready.sound.runs calls ∙ last.ready.items in
     let same : state_of end ≡ side_seen 0 new = gives.silent items ∙ ap (λ (out : Option HalfState). side_seen (half_loaded out) new) last.none in
     subst (λ (b : SideState). HandsPart count (state_of (before count half it)) b ⊎ HandsWhole count (state_of (before count half it)) b) (sym same)
-    (hands count half done it new last d none calls)
+    (hands count half done it new last d loads none calls)
 
 -- the records tell which of both it was
 pub still_part : (count : ℕ) (a b : SideState) → HandsPart count a b ⊎ HandsWhole count a b → length b.book.trail.copies ≡ length a.book.trail.copies → LoadsPart count count a b

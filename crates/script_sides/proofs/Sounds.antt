@@ -1,5 +1,5 @@
 -- A side stays sound while its proxy is called and its peer gets more.
-use Rattle.std.proofs.Common.{◌≡◌, ℕ, List, [], ◌∷◌, Bool, true, false, Option, Some, None, Result, Ok, Err, refl, sym, ap, subst, ◌∙◌}
+use Rattle.std.proofs.Common.{◌≡◌, List, [], ◌∷◌, Bool, Option, Some, None, Ok, refl, sym, ap, subst, ◌∙◌}
 use Rattle.std.specs.List.{AllByRecursion}
 use Rattle.half_model.specs.declared.items.PeerIn.{PeerIn}
 use Rattle.half_model.specs.declared.items.PeerIn.TheVariants as inputs
@@ -9,7 +9,7 @@ use Rattle.pair_runs.specs.Sides.{Inside, SideState, fed_inside, rows_of, last_n
 use Rattle.pair_runs.specs.WorkLaws.{RunsOn}
 use Rattle.pair_runs.specs.Working.{Works}
 use Rattle.pair_runs.proofs.Calling.{ok_done}
-use Rattle.pair_runs.proofs.Failing.{kept_by_fault}
+use Rattle.pair_runs.proofs.Refusing.{kept_by_fault}
 use Rattle.pair_runs.proofs.Showing.{kept_by_calls}
 use Rattle.receipt_laws.specs.Lending.{CopiesAre, LeavesCopies}
 use Rattle.receipt_laws.specs.Owning.{AllOwn, BringsOwn, PutIsOwn}
@@ -19,7 +19,7 @@ use Rattle.receipt_laws.proofs.OutCalls.{calls_leave}
 use Rattle.script_peers.specs.Peers.{ScriptedPeer}
 use Rattle.script_sides.specs.Answering.{Stops}
 use Rattle.script_sides.specs.Halves.{HalfState}
-use Rattle.script_sides.specs.Ready.{OwnOf, IsHalf, HalfFits, IsSound, IsReady, ReadyGoesOn}
+use Rattle.script_sides.specs.Ready.{OwnOf, HalfFits, IsSound, ReadyGoesOn}
 use Rattle.script_sides.specs.Sided.{SideRun, state_of, half_loaded}
 use Rattle.script_sides.proofs.Kins.{Kin, Fell, call_kin}
 use Rattle.side_model.specs.declared.fault.ProxyFault.{ProxyFault}

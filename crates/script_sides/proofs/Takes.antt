@@ -1,8 +1,8 @@
 -- What it comes to that a side takes the next item of its peer's wire.
-use Rattle.std.proofs.Common.{◌≡◌, ◌≢◌, ℕ, ◌-◌, ◌<◌, ◌≤◌, ℤ, List, [], ◌∷◌, Bool, true, false, Option, Some, None, Result, Ok, Err, refl, sym, ap, subst, ◌∙◌, arith, inl, inr}
+use Rattle.std.proofs.Common.{◌≡◌, ℕ, ◌-◌, ◌≤◌, List, [], ◌∷◌, Bool, true, false, Option, Some, Ok, refl, sym, ap, subst, ◌∙◌, arith, inr}
 use Rattle.half_model.specs.declared.items.PeerIn.{PeerIn}
-use Rattle.pair_runs.specs.Sides.{SideState, fed, wants}
-use Rattle.pair_runs.specs.Taking.{Cut, Taker, cut_item}
+use Rattle.pair_runs.specs.Sides.{fed, wants}
+use Rattle.pair_runs.specs.Taking.{Cut, Taker}
 use Rattle.pair_runs.specs.Working.{Works, WorksInPart}
 use Rattle.pair_runs.proofs.Showing.{wants_is}
 use Rattle.proxy_trail.specs.Kept.{wants_peer}
@@ -64,15 +64,15 @@ takes_works most it peer one last w off wire works = record {
 }
 
 pub takes_part : (most : ℕ) (it : SideRun) (peer : ScriptedPeer) (one : WireItem) (last : SideRun) → wants (state_of it) ≡ true → Off most it.peer.wire peer.wire one → last.peer.wire ≡ peer.wire
-    → WorksInPart (fed one.item (state_of it)) (state_of last) → TakesOne most (taker_of it) (taker_of last) (λ cut. WorksInPart (fed cut.item (taker_of it).side) (taker_of last).side)
-takes_part most it peer one last w off wire part = record {
+    → (fault : ProxyFault) → WorksInPart false (Some one.item) fault (fed one.item (state_of it)) (state_of last) → TakesOne most (taker_of it) (taker_of last) (λ cut. WorksInPart false (Some cut.item) fault (fed cut.item (taker_of it).side) (taker_of last).side)
+takes_part most it peer one last w off wire fault part = record {
   some = off.some;
   wants = w;
   item = off.item;
   rest = off.rest;
   front = off.front;
   wire = wire ∙ off.wire;
-  behind = subst (λ (item : PeerIn). WorksInPart (fed item (state_of it)) (state_of last)) off.is part;
+  behind = subst (λ (item : PeerIn). WorksInPart false (Some item) fault (fed item (state_of it)) (state_of last)) off.is part;
 }
 
 -- ---- one after another

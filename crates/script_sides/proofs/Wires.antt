@@ -1,21 +1,20 @@
 -- What it comes to that a side takes from its peer's wire: an item that leaves the wire is the one that a run cuts off it.
-use Rattle.std.proofs.Common.{◌≡◌, ◌≢◌, ℕ, zero, suc, ◌+◌, ◌-◌, ◌<◌, ◌≤◌, List, [], ◌∷◌, ◌++◌, take, drop, length, min, Bool, true, false, Option, Some, None, Result, Ok, Err, refl, sym, ap, subst, ◌∙◌, arith, length-take-le, length-drop, inl, inr, ◌⊎◌}
+use Rattle.std.proofs.Common.{◌≡◌, ℕ, zero, suc, ◌+◌, ◌-◌, ◌<◌, ◌≤◌, List, [], ◌∷◌, ◌++◌, take, drop, length, min, false, Option, Some, None, refl, sym, ap, subst, ◌∙◌, arith, length-take-le, length-drop, inl, inr, ◌⊎◌}
 use Rattle.std.proofs.lemmas.List.{take_min, drop_min}
 use Rattle.std.proofs.lemmas.List.Sums.{sum_by-cons}
 use Rattle.std.specs.List.{AllByRecursion}
 use Rattle.half_model.specs.declared.items.PeerIn.{PeerIn}
 use Rattle.half_model.specs.declared.items.PeerIn.TheVariants as items
 use Rattle.pair_runs.specs.Measure.{item_left, wire_left}
-use Rattle.pair_runs.specs.Sides.{SideState, fed, wants}
-use Rattle.pair_runs.specs.Taking.{Cut, behind, piece_size, cut_item, Taker, TakesNone, TakeFails, TakeGoes, TakesIn, TakesAll}
+use Rattle.pair_runs.specs.Sides.{fed}
+use Rattle.pair_runs.specs.Taking.{Cut, behind, piece_size, cut_item, Taker, TakesIn, TakesAll}
 use Rattle.pair_runs.specs.Working.{Works, WorksInPart}
 use Rattle.receipt_laws.specs.Owning.{Ownership, PutIsOwn}
-use Rattle.script_peers.specs.Wires.{Left, piece_of, leaving, next_of, cost_of, IsWithin, IsItem}
+use Rattle.script_peers.specs.Wires.{Left, piece_of, leaving, next_of, cost_of, IsWithin}
 use Rattle.script_peers.specs.declared.item_queue.TheConstants.{LARGEST_PIECE}
 use Rattle.script_peers.specs.declared.item_queue.WireItem.{WireItem}
-use Rattle.script_sides.specs.Takings.{TakesOne, TakesNothing, TakesNext}
+use Rattle.script_sides.specs.Takings.{TakesOne, TakesNothing}
 use Rattle.side_model.specs.declared.fault.ProxyFault.{ProxyFault}
-use Rattle.side_model.specs.declared.fault.ProxyFault.TheVariants.{Memory}
 use Rattle.side_model.specs.Sound.{MOST_PIECE}
 use Rattle.side_model.specs.Sound as sound
 
@@ -147,7 +146,7 @@ one_more most a b c stop cost one all =
           (one.some, one.wants, inr (record { mid = b.side; works = one.behind.1; more = row }));
     }
 
-pub one_fails : (most : ℕ) (a b : Taker) (fault : ProxyFault) → TakesOne most a b (λ it. WorksInPart (fed it.item a.side) b.side) → TakesAll most a b (Some fault)
+pub one_fails : (most : ℕ) (a b : Taker) (fault : ProxyFault) → TakesOne most a b (λ it. WorksInPart false (Some it.item) fault (fed it.item a.side) b.side) → TakesAll most a b (Some fault)
 one_fails most a b fault one = record {
   count = 1;
   row =

@@ -1,6 +1,6 @@
 -- How far words are loaded by one step of it; this project's own.
-use Rattle.std.specs.Prelude.{◌≡◌, ◌≢◌, ◌+◌, ◌-◌, ◌<◌, ◌≤◌, ℕ, Bool, true, false, [], Option, Some, None, Result, Ok}
-use Rattle.std.specs.Prelude.{Err}
+use Rattle.std.specs.Prelude.{◌≡◌, ◌≢◌, ◌+◌, ◌-◌, ◌<◌, ◌≤◌, ℕ, Bool, true, false, []}
+use Rattle.std.specs.Prelude.{Option, Some, None, Result, Ok, Err}
 use Rattle.pair_runs.specs.Loading.{Loads}
 use Rattle.pair_runs.specs.Sides.{SideState, all_loaded, words_left}
 use Rattle.pair_runs.specs.Working.{Works, WorksInPart}
@@ -81,19 +81,19 @@ pub record IsLast (count : ℕ) (half : HalfState) (it : SideRun) : Type 0 where
   pub whole : half.loaded ≡ half.count
 
 -- a copy that is handed back meets a fault
-pub record LoadStops (a b : SideState) : Type 0 where
+pub record LoadStops (fault : ProxyFault) (a b : SideState) : Type 0 where
   pub awaits : a.copies ≢ []
-  pub part : WorksInPart a b
+  pub part : WorksInPart false None fault a b
 
 abbrev pub LoadedBy : ℕ → SideState → SideState → Result Progress ProxyFault → Type 0
 LoadedBy most a b (Ok progress) = Loaded most a b progress
-LoadedBy most a b (Err fault) = fault ≢ Memory → LoadStops a b
+LoadedBy most a b (Err fault) = fault ≢ Memory → LoadStops fault a b
 
 -- all words of the copies of the message that is owed are loaded, if one is owed
 abbrev pub LoadsMessage : SideState → SideState → Result Bool ProxyFault → Type 0
 LoadsMessage a b (Ok false) = LoadsNothing a b
 LoadsMessage a b (Ok true) = LoadsRest a b
-LoadsMessage a b (Err fault) = fault ≢ Memory → LoadStops a b
+LoadsMessage a b (Err fault) = fault ≢ Memory → LoadStops fault a b
 
 -- so many words are over
 abbrev pub LoadsBy : ℕ → SideState → SideState → Result ℕ ProxyFault → Type 0

@@ -1,5 +1,5 @@
--- What a side of a replay keeps between two calls: its proxy runs on and has given all, and the copy
--- that is out is the one whose words are being loaded; this project's own.
+-- What a side of a replay keeps between two calls: its proxy runs on and has given all, and the
+-- copy that is out is the one whose words are being loaded; this project's own.
 use Rattle.std.specs.Prelude.{◌≡◌, ◌<◌, ℕ, ℤ, [], Option, Some, None}
 use Rattle.std.specs.List.{AllByRecursion}
 use Rattle.half_model.specs.Jobs.{Job, Waits}
@@ -8,7 +8,7 @@ use Rattle.pair_runs.specs.Sides.{TOKEN, last_number}
 use Rattle.pair_runs.specs.WorkLaws.{RunsOn}
 use Rattle.pool_words.specs.Views.{ReceiptState}
 use Rattle.receipt_laws.specs.Lending.{CopiesAre}
-use Rattle.receipt_laws.specs.Owning.{Ownership, EyeIsOwn, PutIsOwn, AllOwn}
+use Rattle.receipt_laws.specs.Owning.{EyeIsOwn, PutIsOwn, AllOwn}
 use Rattle.script_peers.specs.Owning.{IsOwnReceipt}
 use Rattle.script_peers.specs.Peers.{ScriptedPeer}
 use Rattle.script_sides.specs.Halves.{HalfState}

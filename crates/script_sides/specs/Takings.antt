@@ -1,6 +1,6 @@
 -- What it comes to that a side is fed one item of its peer's wire; this project's own.
-use Rattle.std.specs.Prelude.{◌≡◌, ◌≢◌, ◌<◌, ℕ, true, false, List, [], ◌∷◌, Option, Some, None, Result}
-use Rattle.std.specs.Prelude.{Ok, Err}
+use Rattle.std.specs.Prelude.{◌≡◌, ◌≢◌, ◌<◌, ℕ, true, false, List, [], ◌∷◌}
+use Rattle.std.specs.Prelude.{Option, Some, None, Result, Ok, Err}
 use Rattle.half_model.specs.declared.items.PeerIn.{PeerIn}
 use Rattle.pair_runs.specs.Sides.{SideState, fed, wants}
 use Rattle.pair_runs.specs.Taking.{Taker, Cut, cut_item, TakesNone}
@@ -9,9 +9,9 @@ use Rattle.side_model.specs.declared.fault.ProxyFault.{ProxyFault}
 use Rattle.side_model.specs.declared.fault.ProxyFault.TheVariants.{Memory}
 
 -- a side that was fed works, or meets a fault
-abbrev pub Feeds : Result Unit ProxyFault → SideState → SideState → Type 0
-Feeds (Ok done) a b = Works false a b
-Feeds (Err fault) a b = fault ≢ Memory → WorksInPart a b
+abbrev pub Feeds : PeerIn → Result Unit ProxyFault → SideState → SideState → Type 0
+Feeds item (Ok done) a b = Works false (fed item a) b
+Feeds item (Err fault) a b = fault ≢ Memory → WorksInPart false (Some item) fault (fed item a) b
 
 -- an item leaves the wire, and this holds of it
 pub record TakesOne (most : ℕ) (a b : Taker) (Behind : Cut → Type 0) : Type 0 where
@@ -33,7 +33,8 @@ TakesNext most a b (Ok None) = TakesNothing most a b
 TakesNext most a b (Ok (Some cost)) =
     TakesOne most a b (λ it. (cost ≡ it.cost) × Works false (fed it.item a.side) b.side)
 TakesNext most a b (Err fault) =
-    fault ≢ Memory → TakesOne most a b (λ it. WorksInPart (fed it.item a.side) b.side)
+    fault ≢ Memory
+    → TakesOne most a b (λ it. WorksInPart false (Some it.item) fault (fed it.item a.side) b.side)
 
 -- an item may be taken
 pub record TookSome (most : ℕ) (a : Taker) : Type 0 where

@@ -40,7 +40,12 @@ impl Model for ScriptSide {
 
     ghost Value = { SideRun };
 
-    ghost view = { λ it. record { trail = it.trail; peer = it.peer; half = it.half; asked = it.asked } };
+    ghost view = { λ it. record {
+      trail = it.trail;
+      peer = it.peer;
+      half = it.half;
+      asked = it.asked;
+    } };
 }
 
 impl ScriptSide {

@@ -1,7 +1,8 @@
 //! The calls of a side's connection.
 
 ghost use Rattle.std.specs.Prelude.{◌≡◌, ◌<◌, ◌≤◌, [], true, false, length, take, OnOk, IfErr};
-ghost use Rattle.pair_runs.specs.Linking.{written, RefusesPiece};
+ghost use Rattle.pair_runs.specs.Linking.{written};
+ghost use Rattle.pair_runs.specs.Whys.{RefusesPiece};
 ghost use Rattle.pair_runs.specs.Sides.{rows_of, last_number};
 ghost use Rattle.script_sides.specs.Answering.{Leaves, Stays};
 ghost use Rattle.script_sides.specs.Linked.{LinesUp, UpIsLimited, LeavesUp, Hears, HasNoFront};
@@ -15,8 +16,8 @@ impl ScriptSide {
     /// A connection comes up, of a greater number than those before.
     ///
     /// # Errors
-    /// `Connections` exactly where the number is above 4,096; else the limit of the records, or want
-    /// of memory.
+    /// `Connections` exactly where the number is above 4,096; else the limit of the records where a
+    /// line more is too heavy, or want of memory.
     pub fn link_up(&mut self, connection: u32) -> Result<(), ProxyFault>
         requires ready { IsReady self.old }
         requires down { is_up self.old ≡ false }
@@ -52,7 +53,8 @@ impl ScriptSide {
         ensures same { state_of self.new ≡ state_of self.old }
         ensures lent { OnOk result (lent_of self.new ≡ lent_of self.old) }
         ensures room { OnOk result (room_of self.new ≡ length (lent_of self.new)) }
-        ensures refuses { IfErr result RefusesPiece }
+        ensures refuses { IfErr result (λ fault. RefusesPiece fault
+            (state_of self.new).book.trail) }
         ensures leaves { Leaves result self.old self.new }
         ensures peer { self.new.peer ≡ self.old.peer }
     {
@@ -61,8 +63,8 @@ impl ScriptSide {
         answer
     }
 
-    /// The bytes that are to be written next. None are, where a connection is up, exactly where there
-    /// is nothing to be sent. Takes no memory.
+    /// The bytes that are to be written next. None are, where a connection is up, exactly where
+    /// there is nothing to be sent. Takes no memory.
     pub fn lent(&self) -> &[u8]
         ensures bytes { result.now ≡ lent_of self.now }
         ensures nothing { IsReady self.now → is_up self.now ≡ true → result.now ≡ []

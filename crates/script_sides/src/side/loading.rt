@@ -1,11 +1,14 @@
 //! How the words of copies are loaded.
 
 ghost use Rattle.std.specs.Prelude.{◌≡◌, ◌≢◌, ◌<◌, true, false, [], None, Ok};
+ghost use Rattle.owed_groups.specs.Lending.{done_of};
 ghost use Rattle.pair_runs.specs.Loading.{LoadsAll};
 ghost use Rattle.script_sides.specs.Answering.{Answers, Leaves};
-ghost use Rattle.script_sides.specs.Progressing.{LoadsBy, LoadsMessage, LoadedBy, Begins, IsLast, before};
+ghost use Rattle.script_sides.specs.Progressing.{LoadsBy, LoadsMessage, LoadedBy};
+ghost use Rattle.script_sides.specs.Progressing.{Begins, IsLast, before};
 ghost use Rattle.script_sides.specs.Ready.{IsReady};
 ghost use Rattle.script_sides.specs.Sided.{state_of};
+ghost use Rattle.side_model.specs.Sound.{HasLoads};
 
 use super::ScriptSide;
 use crate::half_copy::HalfCopy;
@@ -127,7 +130,9 @@ impl ScriptSide {
         ensures wire { self.new.peer.wire ≡ self.old.peer.wire }
     {
         let made = self.trail.record().copies.len();
-        let answer = self.trail.copy_done(half.finish());
+        let done = half.finish();
+        has_loads(&done);
+        let answer = self.trail.copy_done(done);
         self.trail.stands();
         answer?;
         match self.give() {
@@ -140,4 +145,11 @@ impl ScriptSide {
             Ok(Progress::Whole(count))
         }
     }
+}
+
+// The receipt of a copy stands for just the loads of its words: its type keeps that.
+fn has_loads(done: &CopyDone)
+    ensures { HasLoads (done_of done.now) }
+{
+    let _ = &done.receipt;
 }

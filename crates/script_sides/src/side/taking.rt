@@ -15,8 +15,8 @@ use half_model::PeerIn;
 use side_model::ProxyFault;
 
 impl ScriptSide {
-    /// Takes from the peer's wire, item by item while it wants them, where at most so many bytes may
-    /// be taken; true where an item was taken.
+    /// Takes from the peer's wire, item by item while it wants them, where at most so many bytes
+    /// may be taken; true where an item was taken.
     ///
     /// # Errors
     /// Those of the proxy, or want of memory.
@@ -67,7 +67,7 @@ impl ScriptSide {
         requires wants { wants (state_of self.old) ≡ true }
         requires item { IsItem item }
         requires own { PutIsOwn (OwnOf self.old.peer) item }
-        ensures works { Feeds result (fed item (state_of self.old)) (state_of self.new) }
+        ensures works { Feeds item result (state_of self.old) (state_of self.new) }
         ensures leaves { Leaves result self.old self.new }
         ensures wire { self.new.peer.wire ≡ self.old.peer.wire }
     {

@@ -1,4 +1,5 @@
-use Rattle.pair_runs.proofs.Failing.{fed_fails, came_fails, asks_fails, handed_fails, up_fails, up_limits, lends_fails, kept_by_fault}
+use Rattle.pair_runs.proofs.Failing.{fed_fails, came_fails, asks_fails, handed_fails}
+use Rattle.pair_runs.proofs.Refusing.{up_fails, up_limits, lends_fails, kept_by_fault}
 use Rattle.pair_runs.proofs.laws.calls_fail.Goals as goal
 
 pub returns-clause-fed : goal.returns-clause-fed

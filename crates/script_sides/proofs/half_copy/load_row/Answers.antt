@@ -1,6 +1,6 @@
-use Rattle.std.proofs.Common.{◌≡◌, ℕ, ◌+◌, List, ◌++◌, length, arith, refl, sym, ap, subst, ◌∙◌}
+use Rattle.std.proofs.Common.{◌≡◌, ℕ, ◌+◌, List, ◌++◌, length, arith, sym, ap, ◌∙◌}
 use Rattle.std.specs.Prelude.{take}
-use Rattle.pool_words.specs.Views.{EyeState, sights}
+use Rattle.pool_words.specs.Views.{sights}
 use Rattle.pool_words.specs.declared.views.Sight.{Sight}
 use Rattle.script_sides.proofs.Words.{sights_rows}
 use Rattle.script_sides.proofs.half_copy.load_row.Goals as goal

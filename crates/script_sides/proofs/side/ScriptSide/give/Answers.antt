@@ -1,5 +1,5 @@
-use Rattle.std.proofs.Common.{◌≡◌, Bool, true, false, not, refl, sym, ap, subst, ◌∙◌}
-use Rattle.script_sides.specs.Giving.{Gives, GivesNext}
+use Rattle.std.proofs.Common.{Bool, false, subst}
+use Rattle.script_sides.specs.Giving.{GivesNext}
 use Rattle.script_sides.proofs.Gives.{gives_none, gives_then, next_gives, last_gives, last_ready, next_fewer}
 use Rattle.script_sides.proofs.side.ScriptSide.give.Goals as goal
 

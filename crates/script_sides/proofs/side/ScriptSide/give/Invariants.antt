@@ -1,4 +1,3 @@
-use Rattle.std.proofs.Common.{ℕ}
 use Rattle.script_sides.specs.Giving.{Gives, to_give}
 use Rattle.script_sides.proofs.side.ScriptSide.give.Given as goal
 

@@ -1,7 +1,7 @@
-use Rattle.std.proofs.Common.{◌≡◌, ℕ, List, [], true, false, Bool, Option, Some, None, Result, Ok, Err, OnOk, IfOk, refl, sym, ap, subst, ◌∙◌}
+use Rattle.std.proofs.Common.{sym, subst}
 use Rattle.script_sides.proofs.Gives.{sound_given, sound_less}
 use Rattle.script_sides.specs.Sided.{SideRun}
-use Rattle.script_sides.specs.Ready.{IsReady, IsSound}
+use Rattle.script_sides.specs.Ready.{IsSound}
 use Rattle.script_sides.proofs.side.ScriptSide.give_next.Goals as goal
 
 pub returns-in_ok-given-in-Some-clause-sound : goal.returns-in_ok-given-in-Some-clause-sound

@@ -20,7 +20,7 @@ returns-in_err-answer-clause-loads c =
     rw (p.1, p.2)
     (let failed : Result Progress ProxyFault = Err c.in_err-answer.field-0.0 in
     subst (λ (x : SideRun). LoadedBy c.args.count (state_of (before c.args.count c.args.half x)) (state_of (with_trail c.copy_done-answer.new.self it)) failed) c.self.view_is
-    (λ n. back_stops c.args.count c.args.half c.finish.result c.in_err-answer.field-0.0 it c.copy_done-answer.new.self last c.finish.ensures c.in_err-answer.ensures))
+    (λ n. back_stops c.args.count c.args.half c.finish-done.result c.in_err-answer.field-0.0 it c.copy_done-answer.new.self last c.finish-done.ensures c.has_loads.ensures c.in_err-answer.ensures))
 
 pub returns-in_err-answer-clause-leaves : goal.returns-in_err-answer-clause-leaves
 returns-in_err-answer-clause-leaves c =
@@ -30,20 +30,20 @@ returns-in_err-answer-clause-leaves c =
     rw (p.1, p.2)
     (let failed : Result Progress ProxyFault = Err c.in_err-answer.field-0.0 in
     subst (λ (x : SideRun). Leaves failed x (with_trail c.copy_done-answer.new.self it)) c.self.view_is
-    (λ n. back_fell c.args.count c.args.half c.finish.result c.in_err-answer.field-0.0 it c.copy_done-answer.new.self last c.stands.ensures c.in_err-answer.ensures))
+    (λ n. back_fell c.args.count c.args.half c.finish-done.result c.in_err-answer.field-0.0 it c.copy_done-answer.new.self last c.stands.ensures c.in_err-answer.ensures))
 
 pub give-requires : goal.give-requires
 give-requires c =
     let it : SideRun = record { trail = c.self.inside.trail; peer = c.self.inside.peer; half = c.self.inside.half; asked = c.self.inside.asked } in
     let last : IsLast c.args.count c.args.half it = subst (λ (x : SideRun). IsLast c.args.count c.args.half x) (sym c.self.view_is) c.requires in
-    back_sound c.args.count c.args.half c.finish.result it c.copy_done-answer.new.self last c.finish.ensures c.stands.ensures c.in_ok-answer.ensures
+    back_sound c.args.count c.args.half c.finish-done.result it c.copy_done-answer.new.self last c.finish-done.ensures c.has_loads.ensures c.stands.ensures c.in_ok-answer.ensures
 
 pub returns-clause-loads : goal.returns-clause-loads
 returns-clause-loads c =
     let it : SideRun = record { trail = c.self.inside.trail; peer = c.self.inside.peer; half = c.self.inside.half; asked = c.self.inside.asked } in
     let last : IsLast c.args.count c.args.half it = subst (λ (x : SideRun). IsLast c.args.count c.args.half x) (sym c.self.view_is) c.requires in
     let hands : HandsPart c.args.count (state_of (before c.args.count c.args.half it)) (state_of c.give.new.self) ⊎ HandsWhole c.args.count (state_of (before c.args.count c.args.half it)) (state_of c.give.new.self) =
-    back_hands c.args.count c.args.half c.finish.result it c.copy_done-answer.new.self c.give.new.self last c.finish.ensures c.stands.ensures c.in_ok-answer.ensures c.in-Ok.ensures.gives in
+    back_hands c.args.count c.args.half c.finish-done.result it c.copy_done-answer.new.self c.give.new.self last c.finish-done.ensures c.has_loads.ensures c.stands.ensures c.in_ok-answer.ensures c.in-Ok.ensures.gives in
     let was : c.len-made.result ≡ length it.trail.book.trail.copies = c.len-made.ensures ∙ ap (λ (trail : TrailRecord). length trail.copies) c.record.ensures in
     let now : c.len.result ≡ length c.give.new.self.trail.book.trail.copies =
     c.len.ensures ∙ ap (λ (trail : TrailRecord). length trail.copies) c.record-2.ensures ∙ ap (λ (x : SideRun). length x.trail.book.trail.copies) c.self-2.view_is in
@@ -63,7 +63,7 @@ returns-clause-leaves c =
     let last : IsLast c.args.count c.args.half it = subst (λ (x : SideRun). IsLast c.args.count c.args.half x) (sym c.self.view_is) c.requires in
     let stays : Stays c.args.self.now c.give.new.self =
     subst (λ (x : SideRun). Stays x c.give.new.self) c.self.view_is
-    (back_stays c.args.count c.args.half c.finish.result it c.copy_done-answer.new.self c.give.new.self last c.in_ok-answer.ensures c.in-Ok.ensures.gives c.in-Ok.ensures.ready) in
+    (back_stays c.args.count c.args.half c.finish-done.result it c.copy_done-answer.new.self c.give.new.self last c.in_ok-answer.ensures c.in-Ok.ensures.gives c.in-Ok.ensures.ready) in
     let Told : Result Progress ProxyFault → Type 0 = λ (told : Result Progress ProxyFault). Leaves told c.args.self.now c.give.new.self in
     elim c.if-len-made.branch [
       | then-len-made w ↦ subst Told (sym w.result-is) stays

@@ -1,10 +1,9 @@
-use Rattle.std.proofs.Common.{◌≡◌, ℕ, List, [], true, false, Bool, Option, Some, None, Result, Ok, Err, OnOk, IfOk, refl, sym, ap, subst, ◌∙◌}
+use Rattle.std.proofs.Common.{ℕ, ap, ◌∙◌}
 use Rattle.script_sides.proofs.Acting.{holds_is}
 use Rattle.side_model.specs.Books.{TrailRecord}
 use Rattle.pair_runs.specs.Moves.{holds}
 use Rattle.script_sides.specs.Sided.{state_of}
 use Rattle.script_sides.specs.Sided.{SideRun}
-use Rattle.script_sides.specs.Ready.{IsReady, IsSound}
 use Rattle.script_sides.proofs.side.ScriptSide.holds.Goals as goal
 use Rattle.std.proofs.Common.{nat_lt, length}
 

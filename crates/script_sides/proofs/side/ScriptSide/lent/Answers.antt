@@ -1,9 +1,6 @@
-use Rattle.std.proofs.Common.{◌≡◌, ℕ, List, [], true, false, Bool, Option, Some, None, Result, Ok, Err, OnOk, IfOk, refl, sym, ap, subst, ◌∙◌}
+use Rattle.std.proofs.Common.{sym, ap, ◌∙◌}
 use Rattle.script_sides.specs.Sided.{lent_of}
-use Rattle.proxy_trail.specs.Kept.{lent_bytes}
 use Rattle.script_sides.proofs.Links.{no_front}
-use Rattle.script_sides.specs.Sided.{SideRun}
-use Rattle.script_sides.specs.Ready.{IsReady, IsSound}
 use Rattle.script_sides.proofs.side.ScriptSide.lent.Goals as goal
 
 pub returns-clause-nothing : goal.returns-clause-nothing

@@ -1,10 +1,10 @@
-use Rattle.std.proofs.Common.{◌≡◌, ℕ, List, [], true, false, Bool, Option, Some, None, Result, Ok, Err, OnOk, IfOk, refl, sym, ap, subst, ◌∙◌}
-use Rattle.script_sides.specs.Sided.{state_of, is_up}
-use Rattle.side_model.specs.Trails.{TrailState, trail_step}
+use Rattle.std.proofs.Common.{◌≡◌, sym, ap, subst, ◌∙◌}
+use Rattle.script_sides.specs.Sided.{state_of}
+use Rattle.side_model.specs.Trails.{trail_step}
 use Rattle.side_model.specs.Events.{Down}
 use Rattle.script_sides.proofs.Links.{running, down_ready, down_same, down_down}
 use Rattle.script_sides.specs.Sided.{SideRun}
-use Rattle.script_sides.specs.Ready.{IsReady, IsSound}
+use Rattle.script_sides.specs.Ready.{IsReady}
 use Rattle.script_sides.proofs.side.ScriptSide.link_down.Goals as goal
 
 pub returns-clause-same : goal.returns-clause-same

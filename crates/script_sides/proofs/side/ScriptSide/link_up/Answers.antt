@@ -1,9 +1,9 @@
-use Rattle.std.proofs.Common.{◌≡◌, ℕ, List, [], true, false, Bool, Option, Some, None, Result, Ok, Err, OnOk, IfOk, refl, sym, ap, subst, ◌∙◌}
+use Rattle.std.proofs.Common.{◌≡◌, false, sym, ap, subst, ◌∙◌}
 use Rattle.script_sides.specs.Sided.{state_of, is_up}
 use Rattle.script_sides.specs.Linked.{LinesUp, LeavesUp}
 use Rattle.script_sides.proofs.Links.{with_trail, up_lines, up_limited, up_leaves}
 use Rattle.script_sides.specs.Sided.{SideRun}
-use Rattle.script_sides.specs.Ready.{IsReady, IsSound}
+use Rattle.script_sides.specs.Ready.{IsReady}
 use Rattle.script_sides.proofs.side.ScriptSide.link_up.Goals as goal
 
 pub returns-clause-lines : goal.returns-clause-lines

@@ -1,4 +1,3 @@
-use Rattle.std.proofs.Common.{ℕ}
 use Rattle.script_sides.proofs.Loadings.{Loading}
 use Rattle.script_sides.proofs.side.ScriptSide.load.Given as goal
 

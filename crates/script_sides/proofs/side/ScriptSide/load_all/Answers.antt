@@ -1,4 +1,4 @@
-use Rattle.std.proofs.Common.{◌≡◌, Bool, true, false, None, Some, Ok, subst}
+use Rattle.std.proofs.Common.{Bool, None, Some, Ok, subst}
 use Rattle.std.proofs.lemmas.Result.{err_from_is_err_and}
 use Rattle.script_sides.specs.Progressing.{LoadsMessage}
 use Rattle.script_sides.specs.Sided.{state_of}

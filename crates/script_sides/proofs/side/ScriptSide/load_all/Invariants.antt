@@ -1,4 +1,3 @@
-use Rattle.std.proofs.Common.{ℕ}
 use Rattle.script_sides.specs.Sided.{state_of}
 use Rattle.script_sides.proofs.Loadings.{Emptying, to_load}
 use Rattle.script_sides.proofs.side.ScriptSide.load_all.Given as goal

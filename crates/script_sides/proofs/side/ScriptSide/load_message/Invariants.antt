@@ -1,4 +1,3 @@
-use Rattle.std.proofs.Common.{ℕ}
 use Rattle.pair_runs.specs.Sides.{words_left}
 use Rattle.script_sides.specs.Sided.{state_of}
 use Rattle.script_sides.proofs.Loadings.{Filling}

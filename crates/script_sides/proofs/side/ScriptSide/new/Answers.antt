@@ -1,11 +1,11 @@
-use Rattle.std.proofs.Common.{◌≡◌, ℕ, List, [], true, false, Bool, Option, Some, None, Result, Ok, Err, OnOk, IfOk, refl, sym, ap, subst, ◌∙◌}
+use Rattle.std.proofs.Common.{◌≡◌, false, None, sym, ap, subst, ◌∙◌}
 use Rattle.script_sides.specs.Sided.{first_run}
 use Rattle.script_sides.proofs.Links.{first_ready}
 use Rattle.pair_runs.specs.Sides.{TOKEN}
 use Rattle.script_peers.specs.Peers.{ScriptedPeer}
 use Rattle.side_model.specs.Trails.{TrailState, no_records}
 use Rattle.script_sides.specs.Sided.{SideRun}
-use Rattle.script_sides.specs.Ready.{IsReady, IsSound}
+use Rattle.script_sides.specs.Ready.{IsReady}
 use Rattle.script_sides.proofs.side.ScriptSide.new.Goals as goal
 use Rattle.wp_outside.specs.declared.kinds.Side.{Side}
 

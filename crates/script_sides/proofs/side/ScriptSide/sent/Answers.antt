@@ -1,4 +1,4 @@
-use Rattle.std.proofs.Common.{◌≡◌, ℕ, List, [], true, false, Bool, Option, Some, None, Result, Ok, Err, OnOk, IfOk, refl, sym, ap, subst, ◌∙◌}
+use Rattle.std.proofs.Common.{◌≡◌, true, sym, ap, subst, ◌∙◌}
 use Rattle.std.proofs.Common.{take, ◌≤◌}
 use Rattle.script_sides.specs.Sided.{state_of, is_up, lent_of, room_of}
 use Rattle.pair_runs.specs.Linking.{written}
@@ -6,7 +6,7 @@ use Rattle.script_sides.specs.Answering.{Stays}
 use Rattle.side_model.specs.Trails.{Sends}
 use Rattle.script_sides.proofs.Links.{with_trail, running, sent_is, sent_stays}
 use Rattle.script_sides.specs.Sided.{SideRun}
-use Rattle.script_sides.specs.Ready.{IsReady, IsSound}
+use Rattle.script_sides.specs.Ready.{IsReady}
 use Rattle.script_sides.proofs.side.ScriptSide.sent.Goals as goal
 
 pub returns-clause-written : goal.returns-clause-written

@@ -1,4 +1,3 @@
-use Rattle.std.proofs.Common.{ℕ}
 use Rattle.pair_runs.specs.Measure.{wire_left}
 use Rattle.script_sides.proofs.Takes.{TakesOn}
 use Rattle.script_sides.proofs.side.ScriptSide.take.Given as goal

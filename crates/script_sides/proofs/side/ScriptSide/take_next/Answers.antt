@@ -1,4 +1,4 @@
-use Rattle.std.proofs.Common.{◌≡◌, ℕ, List, [], true, false, Bool, Option, Some, None, Result, Ok, Err, OnOk, IfOk, refl, sym, ap, subst, ◌∙◌}
+use Rattle.std.proofs.Common.{◌≡◌, ℕ, true, Option, Some, None, Result, Ok, Err, refl, sym, ap, subst, ◌∙◌}
 use Rattle.std.proofs.lemmas.Result.{err_from_is_err_and}
 use Rattle.script_sides.specs.Sided.{taker_of, state_of}
 use Rattle.script_sides.specs.Answering.{Stays}
@@ -11,7 +11,7 @@ use Rattle.script_sides.specs.Takings.{TakesNothing, TakesNext}
 use Rattle.script_sides.proofs.Wires.{Off, off}
 use Rattle.script_sides.proofs.Takes.{with_peer, off_ready, off_item, wants_by, takes_none, takes_works, takes_part}
 use Rattle.script_sides.specs.Sided.{SideRun}
-use Rattle.script_sides.specs.Ready.{IsReady, IsSound}
+use Rattle.script_sides.specs.Ready.{IsReady}
 use Rattle.script_sides.proofs.side.ScriptSide.take_next.Goals as goal
 
 pub returns-then-not-wants_peer-clause-takes : goal.returns-then-not-wants_peer-clause-takes
@@ -50,7 +50,7 @@ returns-in_err-feed-in-Ok-Some-clause-takes c =
     rw (p.1, p.2)
     (let failed : Result (Option ℕ) ProxyFault = Err c.in_err-feed-in-Ok-Some.field-0.0 in
     subst (λ (x : SideRun). TakesNext c.args.most (taker_of x) (taker_of c.feed.new.self) failed) c.self.view_is
-    (λ n. takes_part c.args.most it c.next.new.self c.in-Ok-Some.it c.feed.new.self w gone c.in_err-feed-in-Ok-Some.ensures.wire (c.in_err-feed-in-Ok-Some.ensures.works n)))
+    (λ n. takes_part c.args.most it c.next.new.self c.in-Ok-Some.it c.feed.new.self w gone c.in_err-feed-in-Ok-Some.ensures.wire c.in_err-feed-in-Ok-Some.field-0.0 (c.in_err-feed-in-Ok-Some.ensures.works n)))
 
 pub returns-in_ok-feed-in-Ok-Some-clause-takes : goal.returns-in_ok-feed-in-Ok-Some-clause-takes
 returns-in_ok-feed-in-Ok-Some-clause-takes c =
