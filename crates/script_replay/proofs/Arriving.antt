@@ -11,8 +11,9 @@ use Rattle.pair_model.specs.Lines as model
 use Rattle.pair_model.specs.Steps.{on_last, with_read}
 use Rattle.pair_runs.specs.Linking.{read, Reads, ReadsInPart}
 use Rattle.pair_runs.specs.Sides.{SideState, rows_of, on_rows}
+use Rattle.pair_runs.specs.Whys.{RefusesMore}
 use Rattle.pair_runs.specs.WorkLaws.{FailsInPart}
-use Rattle.pair_runs.specs.Working.{Works, WorksInPart}
+use Rattle.pair_runs.specs.Working.{Works, InPart, WorksInPart}
 use Rattle.pair_runs.specs.Kept.{HasFailed}
 use Rattle.pair_runs.proofs.More.{reads_more, part_more}
 use Rattle.pair_runs.proofs.Tying.{works_rows}
@@ -61,13 +62,13 @@ reads_then (byte ∷ one) [] a b c h k = subst (λ (bytes : List ℕ). Reads (by
 reads_then (byte ∷ one) (next ∷ other) a b c h k = (h.0, reads_more (byte ∷ one) (next ∷ other) a b c h.1 k.1)
 
 -- where a piece is refused, what was read before it stays
-part_behind : (got : List ℕ) (a b c : SideState) → Reads got a b → WorksInPart b c → WorksInPart (read got a) c
-part_behind [] a b c h k = subst (λ (it : SideState). WorksInPart it c) (sym (read_none a)) (subst (λ (it : SideState). WorksInPart it c) h k)
-part_behind (byte ∷ got) a b c h k = part_more.works (read (byte ∷ got) a) b c h.1 k
+part_behind : (got : List ℕ) (a b c : SideState) → Reads got a b → InPart b c → InPart (read got a) c
+part_behind [] a b c h k = subst (λ (it : SideState). InPart it c) (sym (read_none a)) (subst (λ (it : SideState). InPart it c) h k)
+part_behind (byte ∷ got) a b c h k = part_more.part (read (byte ∷ got) a) b c h.1 k
 
-part_with : (got piece : List ℕ) (a b c : SideState) → Reads got a b → WorksInPart (read piece b) c → WorksInPart (read (got ++ piece) a) c
-part_with [] piece a b c h k = subst (λ (it : SideState). WorksInPart (read piece it) c) h k
-part_with (byte ∷ got) piece a b c h k = part_more.reads (byte ∷ got) piece a b c h.1 k
+part_with : (fault : ProxyFault) (got piece : List ℕ) (a b c : SideState) → Reads got a b → WorksInPart true None fault (read piece b) c → WorksInPart true None fault (read (got ++ piece) a) c
+part_with fault [] piece a b c h k = subst (λ (it : SideState). WorksInPart true None fault (read piece it) c) h k
+part_with fault (byte ∷ got) piece a b c h k = part_more.reads fault (byte ∷ got) piece a b c h.1 k
 
 -- ---- a piece
 
@@ -91,13 +92,15 @@ reads_some connection most count dir old new before after piece up some size cha
 }
 
 -- or the side meets a fault with it
-pub reads_badly : (connection most count : ℕ) (dir : Direction) (fault : ProxyFault) (old new : SideRun) (before after : ℕ → Line) (piece : List ℕ) → count ≡ size_of most (waiting_on dir connection before) → Became before after connection (pulled_from dir count)
-    → piece ≡ take count (waiting_on dir connection before) → FailsInPart fault (state_of old) (read piece (state_of old)) (state_of new) → Stops old new fault → new.peer.wire ≡ old.peer.wire → ReadsBadly fault most connection dir old new before after
-reads_badly connection most count dir fault old new before after piece size change e part stops wire = record {
+pub reads_badly : (connection most count : ℕ) (dir : Direction) (fault : ProxyFault) (old new : SideRun) (before after : ℕ → Line) (piece : List ℕ) → 0 < count → count ≡ size_of most (waiting_on dir connection before) → Became before after connection (pulled_from dir count)
+    → piece ≡ take count (waiting_on dir connection before) → FailsInPart (length piece) fault (state_of old) (read piece (state_of old)) (state_of new) → Stops old new fault → new.peer.wire ≡ old.peer.wire → ReadsBadly fault most connection dir old new before after
+reads_badly connection most count dir fault old new before after piece some size change e part stops wire = record {
   count = count;
+  some = some;
   size = size;
   change = change;
-  part = subst (λ (bytes : List ℕ). FailsInPart fault (state_of old) (read bytes (state_of old)) (state_of new)) e part;
+  part = subst (λ (bytes : List ℕ). FailsInPart count fault (state_of old) (read bytes (state_of old)) (state_of new)) e
+      (subst (λ (n : ℕ). FailsInPart n fault (state_of old) (read piece (state_of old)) (state_of new)) (long_piece connection most count dir before piece size e) part);
   failed = subst (λ (side : Side). HasFailed side (state_of new) fault) (sym stops.side) stops.failed;
   peer = record { side_is = stops.side; wire = wire };
 }
@@ -218,7 +221,13 @@ come_part connection count most dir fault first old new before middle after few 
     small : length piece ≤ MOST_PIECE
     small = omega (arith, length-take bad.count (waiting_on dir connection middle), bad.size)
 
-    in_part : FailsInPart fault (state_of old) (read piece (state_of old)) (state_of new) → ReadsInPart (take most waiting) fault pulled (state_of first) (state_of new)
+    long_rest : length piece ≡ bad.count
+    long_rest = length-take-le bad.count (waiting_on dir connection middle) (omega (arith, bad.size))
+
+    has_bytes : piece ≡ [] → ⊥
+    has_bytes none = omega (arith, ap length none, long_rest, bad.some)
+
+    in_part : FailsInPart bad.count fault (state_of old) (read piece (state_of old)) (state_of new) → ReadsInPart (take most waiting) fault pulled (state_of first) (state_of new)
     in_part (inl refuses) = record {
       few = fits;
       front = front;
@@ -226,8 +235,9 @@ come_part connection count most dir fault first old new before middle after few 
       refused = piece;
       split = next.bytes;
       piece = small;
-      because = λ some. refuses.0;
+      because = λ some. subst (λ (n : ℕ). RefusesMore n fault (state_of new).book.trail) (sym long_rest) refuses.0;
       part = part_behind got (state_of first) (state_of old) (state_of new) so_far.reads refuses.1;
+      why = λ none. absurd (has_bytes none);
     }
     in_part (inr done) = record {
       few = fits;
@@ -237,7 +247,8 @@ come_part connection count most dir fault first old new before middle after few 
       split = next.bytes ∙ sym (append-nil (got ++ piece));
       piece = omega arith;
       because = λ some. absurd (some refl);
-      part = part_with got piece (state_of first) (state_of old) (state_of new) so_far.reads done;
+      part = (part_with fault got piece (state_of first) (state_of old) (state_of new) so_far.reads done).part;
+      why = λ none. part_with fault got piece (state_of first) (state_of old) (state_of new) so_far.reads done;
     }
 
 -- ---- the loop

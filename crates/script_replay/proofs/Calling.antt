@@ -23,7 +23,7 @@ use Rattle.script_replay.specs.Going.{GoesAside}
 use Rattle.script_replay.specs.Settling.{ChangedIf, ChangedAside}
 use Rattle.script_replay.specs.Standing.{IsReadyAside, IsReady, state_of}
 use Rattle.script_replay.specs.declared.run.Run.{Run}
-use Rattle.script_replay.proofs.Keeping.{run_at, with_run, ready_with, aside_with, kept_aside, kept_failed, tells_failed, tells_with, one_move, one_fault, LeavesBy, side_moves}
+use Rattle.script_replay.proofs.Keeping.{run_at, with_run, ready_with, aside_with, kept_aside, kept_failed, tells_failed, tells_with, last_with, one_move, one_fault, LeavesBy, side_moves}
 
 -- ---- lines stay
 
@@ -31,7 +31,7 @@ takes_rows : (count most : ℕ) (a : SideState) (wire : List PeerIn) (b : Taker)
 takes_rows zero most a wire b stop h = ap (λ (it : Taker). rows_of it.side) h.0
 takes_rows (suc count) most a [] b stop h = absurd h
 takes_rows (suc count) most a (item ∷ wire) b stop h = elim h.2 [
-  | inl fails ↦ part_rows (fed (cut_item most item wire).item a) b.side fails.part
+  | inl fails ↦ part_rows (fed (cut_item most item wire).item a) b.side fails.part.part
   | inr goes ↦ takes_rows count (most - (cut_item most item wire).cost) goes.mid (cut_item most item wire).rest b stop goes.more ∙ works_rows false (fed (cut_item most item wire).item a) goes.mid goes.works
 ]
 
@@ -44,7 +44,7 @@ loads_rows zero words a b over stop h = elim h.1 [
   | inr last ↦ ap rows_of last.1
 ]
 loads_rows (suc count) words a b over stop h = elim h.2 [
-  | inl fails ↦ part_rows a b fails.part
+  | inl fails ↦ part_rows a b fails.part.part
   | inr goes ↦ loads_rows count _ goes.1.mid b over stop goes.1.more ∙ works_rows false (all_loaded a) goes.1.mid goes.1.works
 ]
 
@@ -54,7 +54,7 @@ load_rows words a b over stop loads = loads_rows loads.count words a b over stop
 all_rows : (count : ℕ) (a b : SideState) (stop : Option ProxyFault) → LoadsAllIn count a b stop → rows_of b ≡ rows_of a
 all_rows zero a b stop h = ap rows_of h.1
 all_rows (suc count) a b stop h = elim h.1 [
-  | inl fails ↦ part_rows a b fails.part
+  | inl fails ↦ part_rows a b fails.part.part
   | inr goes ↦ all_rows count goes.mid b stop goes.more ∙ works_rows false (all_loaded a) goes.mid goes.works
 ]
 
@@ -65,7 +65,7 @@ pub close_rows : (said : Bool) (stop : Option ProxyFault) (a b : SideState) → 
 close_rows true None a b h = ap rows_of h
 close_rows true (Some fault) a b h = absurd h
 close_rows false None a b h = works_rows false (asked a) b h
-close_rows false (Some fault) a b h = part_rows (asked a) b h
+close_rows false (Some fault) a b h = part_rows (asked a) b h.part
 
 -- ---- what changes
 
@@ -161,7 +161,10 @@ then_far law old mid new move (Some fault) changes goes leaves e = λ line ready
     let between = goes line ready in
     record {
       did = one_fault move (state_of old line) (state_of (with_run Far new mid) line) (record { side = Far; fault = fault }) (record { changes = changes line; kept = kept_failed law Far mid new fault line between.aside leaves });
-      stays = tells_failed Far fault (connections (state_of (with_run Far new mid) line)) (rows_of (sided.state_of mid.near)) (rows_of (sided.state_of new)) line (tells_with Far mid new line e between.tells);
+      stays = record {
+        tells = tells_failed (record { side = Far; fault = fault }) (state_of (with_run Far new mid) line) line (tells_with Far mid new line e between.tells);
+        last = last_with Far mid new line between.aside e;
+      };
     }
 
 pub load_stops : ReadyGoesOn → (words : ℕ) (old : Run) (near : SideRun) (fault : ProxyFault) → Loads words (sided.state_of old.near) (sided.state_of near) 0 (Some fault) → Stops old.near near fault → near.peer.wire ≡ old.near.peer.wire
@@ -186,6 +189,3 @@ load_goes law words over rest old near far stop first second stays leaves e f =
 
     changes : (line : ℕ → outside.Line) → Changes (Load words) (state_of old line) (state_of (with_run Far far (with_run Near near old)) line) (at_side Far stop)
     changes line = (sided.state_of near, (over, (None, first, (sided.state_of far, (rest, (stop, second, is line, refl))))))
-
-pub load_ready : (words over : ℕ) (old : Run) (near : SideRun) → Loads words (sided.state_of old.near) (sided.state_of near) over None → IsReadyAside old → Stays old.near near → IsReadyAside (with_run Near near old)
-load_ready words over old near loads ready leaves = aside_with Near old near ready leaves (load_rows words (sided.state_of old.near) (sided.state_of near) over None loads)

@@ -9,18 +9,17 @@ use Rattle.wp_outside.specs.declared.kinds.Side.{Side}
 use Rattle.wp_outside.specs.declared.kinds.Side.TheVariants.{Near, Far}
 use Rattle.wp_outside.specs.Lines as outside
 use Rattle.wp_outside.specs.Lines.{opened_line, fresh_line, cut_line, spoiled_at, lane_of, Became, Same}
-use Rattle.half_model.specs.declared.causes.Limit.TheVariants.{Connections}
 use Rattle.half_model.specs.declared.items.PeerIn.{PeerIn}
 use Rattle.pair_model.specs.Lines.{Line, written_on, read_on}
-use Rattle.side_model.specs.Books.{Book}
+use Rattle.side_model.specs.Books.{Book, TrailRecord}
 use Rattle.side_model.specs.Calls.{MOST_CONNECTIONS}
 use Rattle.side_model.specs.declared.fault.ProxyFault.{ProxyFault}
-use Rattle.side_model.specs.declared.fault.ProxyFault.TheVariants.{Limit}
 use Rattle.pair_runs.specs.Kept.{HasFailed}
 use Rattle.pair_runs.specs.Linking.{new_line, with_line}
 use Rattle.pair_runs.specs.Moves.{Connect, ConnectIfHeld, Break, Spoil, MovesAll, holds, LineInPart, ConnectBy, Connected, ConnectedBy, spoiled}
 use Rattle.pair_runs.specs.Sides.{SideState, rows_of, last_number}
 use Rattle.pair_runs.specs.States.{State, Fault, Lanes, no_lanes, lane_at, with_lane, on_lane, connections}
+use Rattle.pair_runs.specs.Whys.{RefusesLine}
 use Rattle.pair_runs.proofs.Showing.{last_push}
 use Rattle.script_sides.specs.Answering.{Stops}
 use Rattle.script_sides.specs.Linked.{IsUp}
@@ -126,28 +125,28 @@ part_tells c a b (inr e) n =
 line_tells : (c : ℕ) (a b : SideState) → b ≡ with_line c a → (n : ℕ) → (written_on n (rows_of b) ≡ written_on n (rows_of a)) × (read_on n (rows_of b) ≡ read_on n (rows_of a))
 line_tells c a b e n = part_tells c a b (inr (ap (λ (it : SideState). it.book) e)) n
 
-limits : (run : Run) (line : ℕ → outside.Line) (fault : ProxyFault) → IsReadyAside run → (fault ≡ Limit Connections → MOST_CONNECTIONS < run.last + 1) → fault ≡ Limit Connections → MOST_CONNECTIONS ≤ connections (state_of run line)
-limits run line fault r above e = omega (arith, above e, connections_are run line r)
+refused : (run : Run) (line : ℕ → outside.Line) (fault : ProxyFault) (trail : TrailRecord) → IsReadyAside run → RefusesLine (run.last + 1) fault trail → RefusesLine (suc (connections (state_of run line))) fault trail
+refused run line fault trail r refuses = subst (λ (c : ℕ). RefusesLine c fault trail) (sym (next_is run line r)) refuses
 
 not_up : (up : Bool) (last : ℕ) (s : State) → up ≡ false → up ≡ true → last ≡ connections s
 not_up up last s down e = absurd (let never : false ≡ true = sym down ∙ e in cc)
 
 -- the near side meets a fault
-pub connect_near : ReadyGoesOn → (old : Run) (near : SideRun) (line : ℕ → outside.Line) (fault : ProxyFault) → old.up ≡ false → IsReady old line → LineInPart (old.last + 1) (sided.state_of old.near) (sided.state_of near) → (fault ≡ Limit Connections → MOST_CONNECTIONS < old.last + 1)
+pub connect_near : ReadyGoesOn → (old : Run) (near : SideRun) (line : ℕ → outside.Line) (fault : ProxyFault) → old.up ≡ false → IsReady old line → LineInPart (old.last + 1) (sided.state_of old.near) (sided.state_of near) → RefusesLine (old.last + 1) fault (sided.state_of old.near).book.trail
     → Stops old.near near fault → near.peer.wire ≡ old.near.peer.wire → Went (MovesAll (Connect ∷ [])) old (record old { near = near }) line line (Some (record { side = Near; fault = fault }))
-connect_near law old near line fault down r part above stops wire =
+connect_near law old near line fault down r part refuses stops wire =
     let s : State = state_of old line in
     let t : State = state_of (record old { near = near }) line in
     record {
       did = one_fault Connect s t (record { side = Near; fault = fault }) (record {
         changes = connects true s t (Some (record { side = Near; fault = fault })) refl (line_down old.up (line old.last) down) (
-          limits old line fault r.aside above,
+          refused old line fault (sided.state_of old.near).book.trail r.aside refuses,
           (sided.state_of near, subst (λ (c : ℕ). LineInPart c (sided.state_of old.near) (sided.state_of near)) (sym (next_is old line r.aside)) part, ap (λ (it : List PeerIn). record s { near = sided.state_of near; near_wire = it }) wire),
         );
         kept = (subst (λ (side : Side). HasFailed side (sided.state_of near) fault) r.aside.near.side_is stops.failed, goes_on law Far old.far old.last old.up r.aside.far);
       });
       stays = record {
-        tells = tells_failed Near fault (connections t) (rows_of t.near) (rows_of t.far) line
+        tells = tells_failed (record { side = Near; fault = fault }) t line
             (half_opened (rows_of s.near) (rows_of s.far) (rows_of t.near) (rows_of t.far) line (part_tells (old.last + 1) (sided.state_of old.near) (sided.state_of near) part) (with_same (rows_of s.far)) r.tells);
         last = not_up old.up old.last t down;
       };
@@ -155,16 +154,16 @@ connect_near law old near line fault down r part above stops wire =
 
 -- or the far side
 pub connect_far : ReadyGoesOn → (old : Run) (near far : SideRun) (line : ℕ → outside.Line) (fault : ProxyFault) → old.up ≡ false → IsReady old line → sided.state_of near ≡ with_line (old.last + 1) (sided.state_of old.near) → IsUp old.near near
-    → LineInPart (old.last + 1) (sided.state_of old.far) (sided.state_of far) → (fault ≡ Limit Connections → MOST_CONNECTIONS < old.last + 1) → Stops old.far far fault → near.peer.wire ≡ old.near.peer.wire → far.peer.wire ≡ old.far.peer.wire
+    → LineInPart (old.last + 1) (sided.state_of old.far) (sided.state_of far) → RefusesLine (old.last + 1) fault (sided.state_of old.far).book.trail → Stops old.far far fault → near.peer.wire ≡ old.near.peer.wire → far.peer.wire ≡ old.far.peer.wire
     → Went (MovesAll (Connect ∷ [])) old (record old { near = near; far = far }) line line (Some (record { side = Far; fault = fault }))
-connect_far law old near far line fault down r en un part above stops wn wf =
+connect_far law old near far line fault down r en un part refuses stops wn wf =
     let s : State = state_of old line in
     let t : State = state_of (record old { near = near; far = far }) line in
     let next : suc (connections s) ≡ old.last + 1 = next_is old line r.aside in
     record {
       did = one_fault Connect s t (record { side = Far; fault = fault }) (record {
         changes = connects true s t (Some (record { side = Far; fault = fault })) refl (line_down old.up (line old.last) down) (
-          limits old line fault r.aside above,
+          refused old line fault (sided.state_of old.far).book.trail r.aside refuses,
           (
             sided.state_of far,
             subst (λ (c : ℕ). LineInPart c (sided.state_of old.far) (sided.state_of far)) (sym next) part,
@@ -174,7 +173,7 @@ connect_far law old near far line fault down r en un part above stops wn wf =
         kept = (goes_on law Near near (old.last + 1) true (up_at Near (old.last + 1) old.last old.up old.near near r.aside.near en un), subst (λ (side : Side). HasFailed side (sided.state_of far) fault) r.aside.far.side_is stops.failed);
       });
       stays = record {
-        tells = tells_failed Far fault (connections t) (rows_of t.near) (rows_of t.far) line
+        tells = tells_failed (record { side = Far; fault = fault }) t line
             (half_opened (rows_of s.near) (rows_of s.far) (rows_of t.near) (rows_of t.far) line (line_tells (old.last + 1) (sided.state_of old.near) (sided.state_of near) en) (part_tells (old.last + 1) (sided.state_of old.far) (sided.state_of far) part) r.tells);
         last = not_up old.up old.last t down;
       };

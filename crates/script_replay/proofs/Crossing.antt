@@ -186,7 +186,7 @@ push_near law old near before after most (Some fault) up r h =
         kept = failed_near law old near after fault r.aside h.peer h.stays;
       });
       stays = record {
-        tells = tells_failed Near fault (connections t) (rows_of t.near) (rows_of t.far) after (tells_written_near old near before after h.bytes law up r rows h.change);
+        tells = tells_failed (record { side = Near; fault = fault }) t after (tells_written_near old near before after h.bytes law up r rows h.change);
         last = λ e. sym (numbers_are near old.far old.last (same_number h.bytes (sided.state_of old.near) (sided.state_of near) rows ∙ r.aside.near.number) r.aside.far.number new after refl refl);
       };
     }
@@ -214,7 +214,7 @@ push_far law old far before after most (Some fault) up r h =
         kept = failed_far law old far after fault r.aside h.peer h.stays;
       });
       stays = record {
-        tells = tells_failed Far fault (connections t) (rows_of t.near) (rows_of t.far) after (tells_written_far old far before after h.bytes law up r rows h.change);
+        tells = tells_failed (record { side = Far; fault = fault }) t after (tells_written_far old far before after h.bytes law up r rows h.change);
         last = λ e. sym (numbers_are old.near far old.last r.aside.near.number (same_number h.bytes (sided.state_of old.far) (sided.state_of far) rows ∙ r.aside.far.number) new after refl refl);
       };
     }

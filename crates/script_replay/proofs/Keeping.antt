@@ -89,12 +89,12 @@ nothing_refused Near false connection near far line t = t
 nothing_refused Far true connection near far line t = t
 nothing_refused Far false connection near far line t = t
 
-pub tells_failed : (side : Side) (fault : ProxyFault) (last : ℕ) (near far : List Line) (line : ℕ → outside.Line) → Tells near far line → TellsFailed side fault last near far line
-tells_failed side fault last near far line t = record {
+pub tells_failed : (it : Fault) (s : State) (line : ℕ → outside.Line) → Tells (rows_of s.near) (rows_of s.far) line → TellsFailed it s line
+tells_failed it s line t = record {
   piece = [];
   few = omega arith;
   because = λ some. absurd (some refl);
-  tells = λ connection. nothing_refused side _ connection near far (line connection) (t connection);
+  tells = λ connection. nothing_refused it.side _ connection (rows_of s.near) (rows_of s.far) (line connection) (t connection);
 }
 
 pub tells_with : (side : Side) (old : Run) (new : SideRun) (line : ℕ → outside.Line) → rows_of (sided.state_of new) ≡ rows_of (sided.state_of (run_at side old)) → Tells (rows_of (sided.state_of old.near)) (rows_of (sided.state_of old.far)) line
@@ -131,7 +131,7 @@ side_moves law side old new move None changes leaves e = λ line ready. record {
 side_moves law side old new move (Some fault) changes leaves e = λ line ready. record {
   did = one_fault move (state_of old line) (state_of (with_run side new old) line) (record { side = side; fault = fault }) (record { changes = changes line; kept = kept_failed law side old new fault line ready.aside leaves });
   stays = record {
-    tells = tells_failed side fault (connections (state_of (with_run side new old) line)) (rows_of (sided.state_of (with_run side new old).near)) (rows_of (sided.state_of (with_run side new old).far)) line (tells_with side old new line e ready.tells);
+    tells = tells_failed (record { side = side; fault = fault }) (state_of (with_run side new old) line) line (tells_with side old new line e ready.tells);
     last = last_with side old new line ready.aside e;
   };
 }

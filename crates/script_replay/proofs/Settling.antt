@@ -227,6 +227,11 @@ round_changed most false true s m t first second changed same only =
     go (inl e) = e ∙ changed
     go (inr l) = absurd (no_less most s t here there (same refl) (omega (arith, l, ap left changed)))
 
+-- where something was brought
+pub brought_changed : (most : ℕ) (s m t : State) → MovesAll (bring most) s m None → MovesAll (carry most) m t None → m ≢ s → t ≢ s
+brought_changed most s m t first second changed =
+    less_changed s m t (moves_fall most (bring most) s m (in_bring most) first) (moves_fall most (carry most) m t (in_carry most) second) changed
+
 pub round_less : (most : ℕ) (s t : State) → MovesAll (round most) s t None → t ≢ s → left t < left s
 round_less most s t m n = go (round_falls most s t m)
   where

@@ -1,6 +1,6 @@
 -- How bytes come off a lane of the connection that is up into a side; the link is this project's
 -- own.
-use Rattle.std.specs.Prelude.{◌≡◌, ◌≢◌, ℕ, min, List, take, length, Option, Some, None}
+use Rattle.std.specs.Prelude.{◌≡◌, ◌≢◌, ℕ, ◌<◌, min, List, take, length, Option, Some, None}
 use Rattle.std.specs.Prelude.{Result, Ok, Err}
 use Rattle.wp_outside.specs.declared.kinds.Direction.{Direction}
 use Rattle.wp_outside.specs.Lines.{Line, lane_of, pulled_from, Became}
@@ -32,13 +32,14 @@ pub record ReadsSome (count most connection : ℕ) (dir : Direction) (old new : 
   pub stays : RunsUp new
   pub peer : LeavesPeer old new
 
--- a piece is pulled, and the side meets a fault with it
+-- a piece is pulled that has bytes, and the side meets a fault with it
 pub record ReadsBadly (fault : ProxyFault) (most connection : ℕ) (dir : Direction)
     (old new : SideRun) (before after : ℕ → Line) : Type 0 where
   pub count : ℕ
+  pub some : 0 < count
   pub size : count ≡ size_of most (waiting_on dir connection before)
   pub change : Became before after connection (pulled_from dir count)
-  pub part : FailsInPart fault (state_of old)
+  pub part : FailsInPart count fault (state_of old)
       (read (take count (waiting_on dir connection before)) (state_of old)) (state_of new)
   pub failed : HasFailed new.peer.side (state_of new) fault
   pub peer : LeavesPeer old new

@@ -36,8 +36,7 @@ IfStops (Err stops.Memory) P = Unit {0}
 -- a side has failed: the store tells what was written and read, and the connection that is up, if
 -- one is, is the last one
 pub record HasStopped (it : Fault) (run : Run) (line : ℕ → outside.Line) : Type 0 where
-  pub tells : TellsFailed it.side it.fault (connections (state_of run line))
-      (rows_of (state_of run line).near) (rows_of (state_of run line).far) line
+  pub tells : TellsFailed it (state_of run line) line
   pub last : run.up ≡ true → run.last ≡ connections (state_of run line)
 
 -- the replay may go on, or a side has failed

@@ -27,8 +27,7 @@ WaitsOn lanes line = MatchOption lanes (Unit {0}) (λ it. it ≡ lanes_of line)
 -- the store tells what both sides have written and read, but for a piece refused at a fault
 abbrev pub Told : Option Fault → State → (ℕ → outside.Line) → Type 0
 Told None s line = Tells (rows_of s.near) (rows_of s.far) line
-Told (Some it) s line =
-    TellsFailed it.side it.fault (connections s) (rows_of s.near) (rows_of s.far) line
+Told (Some it) s line = TellsFailed it s line
 
 -- A run of the script ends in a state, which the records, the number of connections and the store
 -- show.

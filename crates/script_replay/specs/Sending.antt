@@ -6,9 +6,10 @@ use Rattle.wp_outside.specs.declared.kinds.Direction.{Direction}
 use Rattle.wp_outside.specs.Lines.{Line, pushed_onto, Became}
 use Rattle.side_model.specs.declared.fault.ProxyFault.{ProxyFault}
 use Rattle.pair_runs.specs.Kept.{HasFailed}
-use Rattle.pair_runs.specs.Linking.{written, RefusesPiece}
+use Rattle.pair_runs.specs.Linking.{written}
 use Rattle.pair_runs.specs.Moves.{WritesBy}
 use Rattle.pair_runs.specs.Sides.{rows_of}
+use Rattle.pair_runs.specs.Whys.{RefusesPiece}
 use Rattle.script_sides.specs.Linked.{HasNoFront}
 use Rattle.script_sides.specs.Ready.{IsReady}
 use Rattle.script_sides.specs.Sided.{SideRun, state_of, is_up}
@@ -52,7 +53,7 @@ pub record SendsSome (count most connection : ℕ) (dir : Direction) (old new : 
 -- the front is too heavy
 pub record SendsNone (fault : ProxyFault) (old new : SideRun) (before after : ℕ → Line)
     : Type 0 where
-  pub because : RefusesPiece fault
+  pub because : RefusesPiece fault (state_of new).book.trail
   pub same : state_of new ≡ state_of old
   pub line : after ≡ before
   pub failed : HasFailed new.peer.side (state_of new) fault

@@ -6,9 +6,9 @@ use Rattle.wp_outside.specs.declared.kinds.Side.TheVariants.{Near, Far}
 use Rattle.wp_outside.specs.Lines as outside
 use Rattle.pair_model.specs.Lines.{Line, written_on, read_on}
 use Rattle.side_model.specs.Sound.{MOST_PIECE}
-use Rattle.side_model.specs.declared.fault.ProxyFault.{ProxyFault}
-use Rattle.pair_runs.specs.Linking.{RefusesPiece}
-use Rattle.pair_runs.specs.States.{Lanes}
+use Rattle.pair_runs.specs.Sides.{rows_of}
+use Rattle.pair_runs.specs.States.{State, Lanes, Fault, side_at, connections}
+use Rattle.pair_runs.specs.Whys.{RefusesMore}
 
 -- the bytes that wait on a connection
 abbrev pub lanes_of : outside.Line → Lanes
@@ -45,10 +45,11 @@ TellsBut side last piece near far line =
     → TellsLine connection near far (refused_by Far side (connection == last) piece)
     (refused_by Near side (connection == last) piece) (line connection)
 
--- A side that met a fault may have refused its last piece.
-pub record TellsFailed (side : Side) (fault : ProxyFault) (last : ℕ) (near far : List Line)
-    (line : ℕ → outside.Line) : Type 0 where
+-- A side that met a fault may have refused its last piece, but only for its bytes: they would have
+-- made its records too heavy.
+pub record TellsFailed (it : Fault) (s : State) (line : ℕ → outside.Line) : Type 0 where
   pub piece : List ℕ
   pub few : length piece ≤ MOST_PIECE
-  pub because : piece ≢ [] → RefusesPiece fault
-  pub tells : TellsBut side last piece near far line
+  pub because : piece ≢ []
+      → RefusesMore (length piece) it.fault (side_at it.side s).book.trail
+  pub tells : TellsBut it.side (connections s) piece (rows_of s.near) (rows_of s.far) line

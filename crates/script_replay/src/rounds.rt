@@ -1,6 +1,6 @@
 //! The rounds in which all that waits moves.
 
-ghost use Rattle.std.specs.Prelude.{◌≡◌, ◌↔◌, ℕ, ◌<◌, ◌||◌, [], ◌∷◌, length, IsTrue, IfOk, OnOk};
+ghost use Rattle.std.specs.Prelude.{◌≡◌, ◌↔◌, ℕ, ◌<◌, [], ◌∷◌, length, IsTrue, IfOk, OnOk};
 ghost use Rattle.wp_outside.specs.declared.kinds.Side.TheVariants.{Near, Far};
 ghost use Rattle.side_model.specs.Books.{weight};
 ghost use Rattle.pair_runs.specs.Moves.{Take, LoadAll, Push, Pull};
@@ -53,10 +53,7 @@ impl Run {
         let far = self.far.weight();
         match self.bring(most) {
             Ok(brought) => match self.carry(most, line, room) {
-                Ok(()) => {
-                    let weighs = self.weighs(near, far);
-                    Ok(either(brought, !weighs))
-                }
+                Ok(()) => Ok(brought || !self.weighs(near, far)),
                 Err(stop) => Err(stop),
             },
             Err(stop) => Err(stop),
@@ -80,7 +77,7 @@ impl Run {
     {
         match self.take_both(most) {
             Ok(took) => match self.load_both() {
-                Ok(loaded) => Ok(either(took, loaded)),
+                Ok(loaded) => Ok(took || loaded),
                 Err(stop) => Err(stop),
             },
             Err(stop) => Err(stop),
@@ -96,7 +93,7 @@ impl Run {
     {
         match self.take(Side::Near, most) {
             Ok(near) => match self.take(Side::Far, most) {
-                Ok(far) => Ok(either(near, far)),
+                Ok(far) => Ok(near || far),
                 Err(stop) => Err(stop),
             },
             Err(stop) => Err(stop),
@@ -111,7 +108,7 @@ impl Run {
     {
         match self.load_all(Side::Near) {
             Ok(near) => match self.load_all(Side::Far) {
-                Ok(far) => Ok(either(near, far)),
+                Ok(far) => Ok(near || far),
                 Err(stop) => Err(stop),
             },
             Err(stop) => Err(stop),
@@ -155,11 +152,4 @@ impl Run {
             Err(stop) => Err(stop),
         }
     }
-}
-
-/// Whether one of both is so.
-fn either(first: bool, second: bool) -> bool
-    ensures { result ≡ (first || second) }
-{
-    first || second
 }

@@ -22,11 +22,11 @@ returns-in-Err-link_up g c =
     let line = g.L.LinkStore.line c.args.line.now in
     stopped Unit Far c.in-Err-link_up.fault c.stop_by.result (Goes (Connect ∷ []) old (record old { near = c.link_up.new.self; far = c.link_up-in-Ok.new.self }) line line) c.stop_by.ensures
     (λ some ready. connect_far c.ready_goes_on.ensures old c.link_up.new.self c.link_up-in-Ok.new.self line c.in-Err-link_up.fault c.requires.down ready c.in-Ok.ensures.lines c.in-Ok.ensures.leaves
-    (c.in-Err-link_up.ensures.lines some) c.in-Err-link_up.ensures.limits (c.in-Err-link_up.ensures.leaves some) c.in-Ok.ensures.wire c.in-Err-link_up.ensures.wire)
+    (c.in-Err-link_up.ensures.lines some).0 (c.in-Err-link_up.ensures.lines some).1 (c.in-Err-link_up.ensures.leaves some) c.in-Ok.ensures.wire c.in-Err-link_up.ensures.wire)
 
 pub returns-in-Err : goal.returns-in-Err
 returns-in-Err g c =
     let old : Run = c.args.self.now in
     let line = g.L.LinkStore.line c.args.line.now in
     stopped Unit Near c.in-Err.fault c.stop_by-in-Err.result (Goes (Connect ∷ []) old (record old { near = c.link_up.new.self }) line line) c.stop_by-in-Err.ensures
-    (λ some ready. connect_near c.ready_goes_on.ensures old c.link_up.new.self line c.in-Err.fault c.requires.down ready (c.in-Err.ensures.lines some) c.in-Err.ensures.limits (c.in-Err.ensures.leaves some) c.in-Err.ensures.wire)
+    (λ some ready. connect_near c.ready_goes_on.ensures old c.link_up.new.self line c.in-Err.fault c.requires.down ready (c.in-Err.ensures.lines some).0 (c.in-Err.ensures.lines some).1 (c.in-Err.ensures.leaves some) c.in-Err.ensures.wire)

@@ -27,8 +27,8 @@ returns-in-Err g c =
     let old = c.args.self.now in
     let new = c.take.new.self in
     other_answer Bool Unit c.in-Err.stop (GoesBy (DoesLine c.args.what.now) old new before before)
-    (line_goes c.args.what.now _ (Take c.in-Take.peer c.in-Take.bytes ∷ []) (Err c.in-Err.stop) old new before before c.in-Take.is refl refl refl
-    (line_in (Err c.in-Err.stop) (Take c.in-Take.peer c.in-Take.bytes ∷ []) old new before c.in-Err.ensures.moves))
+    (line_goes {X = Bool} c.args.what.now _ (Take c.in-Take.peer c.in-Take.bytes ∷ []) (Err c.in-Err.stop) old new before before c.in-Take.is refl refl refl
+    (line_in {X = Bool} (Err c.in-Err.stop) (Take c.in-Take.peer c.in-Take.bytes ∷ []) old new before c.in-Err.ensures.moves))
 
 pub returns-in-Load : goal.returns-in-Load
 returns-in-Load g c =

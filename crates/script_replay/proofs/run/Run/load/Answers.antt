@@ -2,7 +2,7 @@ use Rattle.std.proofs.Common.{[], ◌∷◌, Some, None}
 use Rattle.wp_outside.specs.declared.kinds.Side.TheVariants.{Near, Far}
 use Rattle.pair_runs.specs.Moves.{Load}
 use Rattle.script_replay.specs.Going.{GoesAside}
-use Rattle.script_replay.proofs.Calling.{load_goes, load_stops, load_ready}
+use Rattle.script_replay.proofs.Calling.{load_goes, load_stops}
 use Rattle.script_replay.proofs.Keeping.{with_run, stopped}
 use Rattle.script_replay.proofs.run.Run.load.Goals as goal
 

@@ -1,4 +1,5 @@
-use Rattle.std.proofs.Common.{Bool}
+use Rattle.std.proofs.Common.{Bool, subst}
+use Rattle.script_replay.specs.Settling.{ChangedIf}
 use Rattle.script_replay.specs.Standing.{state_of}
 use Rattle.script_replay.proofs.Settling.{leads_first, leads_more, round_less, settles_here, settle_stops}
 use Rattle.script_replay.proofs.run.Run.settle.Goals as goal
@@ -13,7 +14,7 @@ pub rounds-smaller : goal.rounds-smaller
 rounds-smaller g c =
     let now = state_of c.rounds.self (g.L.LinkStore.line c.rounds.line) in
     let next = state_of c.round.new.self (g.L.LinkStore.line c.round.new.line) in
-    round_less c.args.most now next (c.in-Ok-true.ensures.moves c.rounds.invariant.ready).did (rw c.in-Ok-true.field-0-test at c.in-Ok-true.ensures.moved)
+    round_less c.args.most now next (c.in-Ok-true.ensures.moves c.rounds.invariant.ready).did (subst (λ (moved : Bool). ChangedIf moved now next) c.in-Ok-true.field-0-test c.in-Ok-true.ensures.moved)
 
 pub rounds-preserved : goal.rounds-preserved
 rounds-preserved g c =
@@ -22,7 +23,7 @@ rounds-preserved g c =
     let next = state_of c.round.new.self (g.L.LinkStore.line c.round.new.line) in
     let went = c.in-Ok-true.ensures.moves c.rounds.invariant.ready in
     record {
-      leads = leads_more c.args.most first now next c.rounds.invariant.leads went.did (rw c.in-Ok-true.field-0-test at c.in-Ok-true.ensures.moved);
+      leads = leads_more c.args.most first now next c.rounds.invariant.leads went.did (subst (λ (moved : Bool). ChangedIf moved now next) c.in-Ok-true.field-0-test c.in-Ok-true.ensures.moved);
       ready = went.stays;
     }
 
@@ -33,7 +34,7 @@ returns-in-Ok-false g c = λ _.
     let next = state_of c.round.new.self (g.L.LinkStore.line c.round.new.line) in
     let went = c.in-Ok-false.ensures.moves c.rounds.invariant.ready in
     record {
-      did = settles_here c.args.most first now next c.rounds.invariant.leads went.did (rw c.in-Ok-false.field-0-test at c.in-Ok-false.ensures.moved);
+      did = settles_here c.args.most first now next c.rounds.invariant.leads went.did (subst (λ (moved : Bool). ChangedIf moved now next) c.in-Ok-false.field-0-test c.in-Ok-false.ensures.moved);
       stays = went.stays;
     }
 
