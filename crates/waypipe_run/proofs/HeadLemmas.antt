@@ -28,6 +28,7 @@ use Rattle.pair_runs.specs.Quiet.{IsDone}
 use Rattle.pair_runs.specs.RunLaws.{fault_by}
 use Rattle.pair_runs.specs.Runs.{Played, AreLines, Drained, Runs}
 use Rattle.pair_runs.specs.Sides.{SideState, TOKEN}
+use Rattle.pair_runs.proofs.Blaming.{faults_are_caused}
 use Rattle.pair_runs.proofs.Completing.{drained_brings_all}
 use Rattle.pair_runs.proofs.Allowing.{runs_are_allowed}
 use Rattle.pair_runs.proofs.Ends.{front_then}
@@ -161,6 +162,7 @@ replays_hold options steps answer ln text built reported =
       given = both.0;
       allowed = allowed steps ln reported.pair it both.0 both.1;
       kept = runs_keep.last steps it.played it.last it.end it.runs;
+      caused = λ fault is. faults_are_caused steps it.played it.last fault (subst (Runs steps it.played it.last) is it.runs);
       drained = λ drained. all_received steps ln reported.pair it h drained;
     }
 

@@ -13,12 +13,15 @@ use Rattle.script_lang.specs.Puts.{puts, before_stop}
 use Rattle.script_lang.specs.declared.steps.Step.{Step}
 use Rattle.pair_laws.specs.Passing.{passing}
 use Rattle.pair_runs.specs.Completing.{NeverAsked}
+use Rattle.pair_runs.specs.Faults.{Caused}
 use Rattle.pair_runs.specs.Headline.{Receives}
 use Rattle.pair_runs.specs.Kept.{Kept}
 use Rattle.pair_runs.specs.Orders.{Allowed}
+use Rattle.pair_runs.specs.Putting.{items_put}
 use Rattle.pair_runs.specs.Quiet.{IsDone}
 use Rattle.pair_runs.specs.RunLaws.{fault_by}
-use Rattle.pair_runs.specs.Runs.{Drained}
+use Rattle.pair_runs.specs.Runs.{Drained, Fails}
+use Rattle.pair_runs.specs.States.{Fault, side_at, connections}
 use Rattle.pair_report.specs.Report.{SideTold, PairTold, meant_at, told_of}
 use Rattle.pair_report.specs.declared.options.ReportOptions.{ReportOptions}
 use Rattle.proxy_trail.specs.declared.pair.PairRecord.{PairRecord}
@@ -62,6 +65,10 @@ pub record Holds (steps : List Step) (line : ℕ → Line) (pair : PairRecord)
   pub allowed : Allowed steps (passed_at Near (told_of pair).near) (passed_at Far (told_of pair).far)
   -- the records are lawful: what was written, accepted and kept
   pub kept : Kept (fault_by it.end) it.last
+  -- where a side met a fault, its cause stands
+  pub caused : (fault : Fault) → it.end ≡ Fails fault
+      → Caused fault.side (items_put fault.side it.played) (side_at fault.side it.last).book
+      (connections it.last) fault.fault
   -- and where nothing moved any more, nothing is left to move
   pub drained : it.end ≡ Drained → HasReceivedAll steps (told_of pair) × IsDone it.last
 
