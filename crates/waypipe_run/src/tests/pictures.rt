@@ -246,24 +246,3 @@ fn trial_three(rt: HostRuntime) -> Result<(), Fail> {
     assert_eq!(rt; text.as_slice(), again.as_slice());
     Ok(())
 }
-
-/// Four pictures of 32 MiB are more than the records of a side may weigh.
-#[test]
-fn trail_limit(rt: HostRuntime) -> Result<(), Fail> {
-    let row = Picture {
-        name: "trail-limit",
-        size: 33554432,
-        shape: (4096, 2048, 16384),
-        script: &[
-            ATTACH,
-            "app wl_surface@5.damage_buffer(0, 0, 4096, 2048)\napp wl_surface@5.commit()\n",
-            "app wl_surface@5.damage_buffer(0, 0, 4096, 2048)\napp wl_surface@5.commit()\n",
-            "app wl_surface@5.damage_buffer(0, 0, 4096, 2048)\napp wl_surface@5.commit()\n",
-            "app wl_surface@5.damage_buffer(0, 0, 4096, 2048)\napp wl_surface@5.commit()\n",
-            "settle\n",
-        ],
-        wanted: &["limit trail"],
-    };
-    assert_eq!(rt; first_lacking(rt.alloc(), &row)?, None);
-    Ok(())
-}
