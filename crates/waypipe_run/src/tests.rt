@@ -1,5 +1,6 @@
 //! The call as the program makes it, over sources, sinks and a link in memory.
 mod ends;
+mod handles;
 mod listings;
 mod pictures;
 mod refusals;
@@ -9,6 +10,9 @@ use crate::plain::run_plain;
 use crate::status::Status;
 use std::alloc::{AllocError, Global};
 use wp_outside::{LineStore, MemorySink, MemorySource};
+
+/// A line by which the application hears of globals.
+const REGISTRY: &str = "app wl_display@1.get_registry(new @2)\n";
 
 /// The line for words that are no command.
 const USAGE: &str =

@@ -42,7 +42,9 @@ const ROWS: &[Row] = &[
         words: "replay",
         input: &[
             "app wl_display@1.get_registry(new @2)\n",
-            "app wl_registry@2.bind(1, \"wl_compositor\" 6 new @3)\napp wl_compositor@3.create_surface(new @5)\napp wl_surface@5.destroy()\n",
+            "app wl_registry@2.bind(1, \"wl_compositor\" 6 new @3)\n\
+              app wl_compositor@3.create_surface(new @5)\n\
+              app wl_surface@5.destroy()\n",
             "app wl_compositor@3.create_surface(new @5)\n",
         ],
         status: Status::Peer {
@@ -81,7 +83,15 @@ const ROWS: &[Row] = &[
         name: "commit of a picture without a note of its words",
         words: "replay",
         input: &[
-            "app file 1 64\napp wl_display@1.get_registry(new @2)\napp wl_registry@2.bind(1, \"wl_compositor\" 6 new @3)\napp wl_registry@2.bind(2, \"wl_shm\" 1 new @4)\napp wl_compositor@3.create_surface(new @5)\napp wl_shm@4.create_pool(new @6, fd %1, 64)\napp wl_shm_pool@6.create_buffer(new @7, 0, 4, 4, 16, 0)\napp wl_surface@5.attach(@7, 0, 0)\napp hex 0500000006000800\n",
+            "app file 1 64\n\
+              app wl_display@1.get_registry(new @2)\n\
+              app wl_registry@2.bind(1, \"wl_compositor\" 6 new @3)\n\
+              app wl_registry@2.bind(2, \"wl_shm\" 1 new @4)\n\
+              app wl_compositor@3.create_surface(new @5)\n\
+              app wl_shm@4.create_pool(new @6, fd %1, 64)\n\
+              app wl_shm_pool@6.create_buffer(new @7, 0, 4, 4, 16, 0)\n\
+              app wl_surface@5.attach(@7, 0, 0)\n\
+              app hex 0500000006000800\n",
         ],
         status: Status::Peer {
             side: Side::Near,
@@ -108,7 +118,11 @@ const ROWS: &[Row] = &[
         name: "pipe where a file is to stand",
         words: "replay",
         input: &[
-            "app pipe 1\napp wl_display@1.get_registry(new @2)\napp wl_registry@2.bind(1, \"wl_shm\" 1 new @3)\napp give 1\napp hex 03000000000010000400000040000000\n",
+            "app pipe 1\n\
+              app wl_display@1.get_registry(new @2)\n\
+              app wl_registry@2.bind(1, \"wl_shm\" 1 new @3)\n\
+              app give 1\n\
+              app hex 03000000000010000400000040000000\n",
         ],
         status: Status::Peer {
             side: Side::Near,
@@ -121,7 +135,10 @@ const ROWS: &[Row] = &[
         name: "file too large",
         words: "replay",
         input: &[
-            "app file 1 64\napp wl_display@1.get_registry(new @2)\napp wl_registry@2.bind(1, \"wl_shm\" 1 new @3)\napp wl_shm@3.create_pool(new @4, fd %1, 67108865)\n",
+            "app file 1 64\n\
+              app wl_display@1.get_registry(new @2)\n\
+              app wl_registry@2.bind(1, \"wl_shm\" 1 new @3)\n\
+              app wl_shm@3.create_pool(new @4, fd %1, 67108865)\n",
         ],
         status: Status::Limit { which: Limit::File },
         wanted: &["application sent 2 received 0", "limit file"],
@@ -132,7 +149,13 @@ const ROWS: &[Row] = &[
         name: "id deleted while a request is on its way",
         words: "replay",
         input: &[
-            "app wl_display@1.get_registry(new @2)\nsettle\napp wl_display@1.sync(new @3)\napp wl_registry@2.bind(1, \"wl_shm\" 1 new @4)\ntake app 1000\nup 16\ncomp wl_display@1.delete_id(2)\n",
+            "app wl_display@1.get_registry(new @2)\n\
+              settle\n\
+              app wl_display@1.sync(new @3)\n\
+              app wl_registry@2.bind(1, \"wl_shm\" 1 new @4)\n\
+              take app 1000\n\
+              up 16\n\
+              comp wl_display@1.delete_id(2)\n",
         ],
         status: Status::Frame {
             reader: Reader::Far,
@@ -153,7 +176,11 @@ const ROWS: &[Row] = &[
         name: "frame before the refused one in a piece",
         words: "replay",
         input: &[
-            "app wl_display@1.get_registry(new @2)\nsettle\napp wl_display@1.sync(new @3)\napp wl_registry@2.bind(1, \"wl_shm\" 1 new @4)\ncomp wl_display@1.delete_id(2)\n",
+            "app wl_display@1.get_registry(new @2)\n\
+              settle\n\
+              app wl_display@1.sync(new @3)\n\
+              app wl_registry@2.bind(1, \"wl_shm\" 1 new @4)\n\
+              comp wl_display@1.delete_id(2)\n",
         ],
         status: Status::Frame {
             reader: Reader::Far,
@@ -173,7 +200,15 @@ const ROWS: &[Row] = &[
         name: "id deleted before it was heard of",
         words: "replay",
         input: &[
-            "app wl_display@1.sync(new @3)\ntake app 100\nconnect\ncomp wl_display@1.delete_id(3)\ntake comp 100\nup 32\ndown 100\nup 100\ncomp wl_callback@3.done(1)\n",
+            "app wl_display@1.sync(new @3)\n\
+              take app 100\n\
+              connect\n\
+              comp wl_display@1.delete_id(3)\n\
+              take comp 100\n\
+              up 32\n\
+              down 100\n\
+              up 100\n\
+              comp wl_callback@3.done(1)\n",
         ],
         status: Status::Frame {
             reader: Reader::Near,

@@ -1,17 +1,11 @@
 //! Scripts of messages and of moves of bytes: what each answers and writes.
-use super::{Row, answered, first_missing, first_wrong};
+use super::{REGISTRY, Row, answered, first_missing, first_wrong};
 use crate::status::Status;
 use script_lang::ScriptCause;
 use std::alloc::{AllocError, Global};
 use std::test::Fail;
 
-const REGISTRY: &str = "app wl_display@1.get_registry(new @2)\n";
-
 const ONE: &str = "app hex 0100000000000c0002000000\n";
-
-/// An offer of a text that the application hears of.
-const OFFER: &str =
-    "app wl_registry@2.bind(1, \"wl_data_device_manager\" 3 new @3)\napp wl_registry@2.bind(2, \"wl_seat\" 7 new @4)\napp wl_data_device_manager@3.get_data_device(new @5, @4)\nsettle\ncomp wl_data_device@5.data_offer(new @4278190080)\ncomp wl_data_offer@4278190080.offer(\"text/plain\")\nsettle\n";
 
 /// A client that makes a window and draws it twice.
 const REALISTIC: &str = "app file 1 2457600
@@ -108,7 +102,10 @@ const ROWS: &[Row] = &[
         words: "replay --text",
         input: &[
             REGISTRY,
-            "settle\ncomp wl_registry@2.global(5, \"zwp_linux_dmabuf_v1\", 4)\ncomp wl_registry@2.global_remove(5)\ncomp wl_registry@2.global(6, \"wl_seat\", 9)\n",
+            "settle\n\
+              comp wl_registry@2.global(5, \"zwp_linux_dmabuf_v1\", 4)\n\
+              comp wl_registry@2.global_remove(5)\n\
+              comp wl_registry@2.global(6, \"wl_seat\", 9)\n",
         ],
         status: Status::Done,
         wanted: &[
@@ -143,53 +140,6 @@ const ROWS: &[Row] = &[
         ],
     },
     Row {
-        name: "two-files",
-        words: "replay --text",
-        input: &[
-            "app file 1 64\napp file 2 128\n",
-            REGISTRY,
-            "app wl_registry@2.bind(1, \"wl_shm\" 1 new @4)\napp give 1\n",
-            "app give 2\n",
-            "app hex 0400000000001000060000004000000004000000000010000700000080000000\n",
-        ],
-        status: Status::Done,
-        wanted: &[
-            "got compositor wl_shm@4.create_pool(new @6, fd %1, 64)",
-            "got compositor wl_shm@4.create_pool(new @7, fd %2, 128)",
-            "drained",
-        ],
-    },
-    Row {
-        name: "pipe",
-        words: "replay --long",
-        input: &[
-            REGISTRY,
-            "app wl_registry@2.bind(1, \"wl_data_device_manager\" 3 new @3)\napp wl_registry@2.bind(2, \"wl_seat\" 7 new @4)\napp wl_data_device_manager@3.get_data_device(new @5, @4)\nsettle\ncomp wl_data_device@5.data_offer(new @4278190080)\ncomp wl_data_offer@4278190080.offer(\"text/plain\")\nsettle\napp pipe 1\napp wl_data_offer@4278190080.receive(\"text/plain\", fd %1)\nsettle\ncomp put 1 6869\ncomp end 1\n",
-        ],
-        status: Status::Done,
-        wanted: &[
-            "near made 7 acknowledged 7 accepted 4",
-            "far made 4 acknowledged 4 accepted 7",
-            "pipe 1 bytes 2 sum 209 ended",
-            "drained",
-        ],
-    },
-    Row {
-        name: "keymap",
-        words: "replay --long",
-        input: &[
-            "comp file -1 64\ncomp fill -1 0 8 7\n",
-            REGISTRY,
-            "app wl_registry@2.bind(1, \"wl_seat\" 7 new @3)\napp wl_seat@3.get_keyboard(new @4)\nsettle\ncomp wl_keyboard@4.keymap(1, fd %-1, 60)\n",
-        ],
-        status: Status::Done,
-        wanted: &[
-            "far made 4 acknowledged 4 accepted 3",
-            "mirror -1 size 60 sum 56",
-            "drained",
-        ],
-    },
-    Row {
         name: "both options",
         words: "replay --long --text",
         input: &["app wl_display@1.sync(new @2)\n"],
@@ -205,7 +155,9 @@ const ROWS: &[Row] = &[
         words: "replay --text",
         input: &[
             REGISTRY,
-            "app wl_registry@2.bind(1, \"wl_compositor\" 6 new @3)\napp wl_compositor@3.create_surface(new @5)\napp wl_surface@5.destroy()\n",
+            "app wl_registry@2.bind(1, \"wl_compositor\" 6 new @3)\n\
+              app wl_compositor@3.create_surface(new @5)\n\
+              app wl_surface@5.destroy()\n",
             "settle\ncomp wl_display@1.delete_id(5)\nsettle\n",
             "app wl_compositor@3.create_surface(new @5)\n",
         ],
@@ -239,77 +191,6 @@ const ROWS: &[Row] = &[
         ],
     },
     Row {
-        name: "handles by their rids",
-        words: "replay --text",
-        input: &[
-            "app file 31 64\napp file 30 128\n",
-            REGISTRY,
-            "app wl_registry@2.bind(1, \"wl_shm\" 1 new @4)\napp wl_shm@4.create_pool(new @6, fd %31, 64)\napp wl_shm@4.create_pool(new @7, fd %30, 128)\n",
-        ],
-        status: Status::Done,
-        wanted: &[
-            "application sent 4 received 0",
-            "got compositor wl_shm@4.create_pool(new @6, fd %1, 64)",
-            "got compositor wl_shm@4.create_pool(new @7, fd %2, 128)",
-            "drained",
-        ],
-    },
-    Row {
-        name: "mirrors of both peers",
-        words: "replay --long",
-        input: &[
-            "app file 5 64\napp file 6 192\ncomp file -7 64\ncomp fill -7 0 8 7\ncomp file -8 64\ncomp fill -8 0 8 257\ncomp file -9 64\n",
-            REGISTRY,
-            "app wl_registry@2.bind(1, \"wl_shm\" 1 new @3)\napp wl_registry@2.bind(2, \"wl_seat\" 7 new @4)\napp wl_seat@4.get_keyboard(new @5)\napp wl_shm@3.create_pool(new @6, fd %5, 60)\napp wl_shm@3.create_pool(new @7, fd %6, 130)\nsettle\n",
-            "comp wl_keyboard@5.keymap(1, fd %-7, 60)\ncomp wl_keyboard@5.keymap(1, fd %-8, 1)\ncomp wl_keyboard@5.keymap(0, fd %-9, 0)\n",
-        ],
-        status: Status::Done,
-        wanted: &[
-            "application sent 6 received 3",
-            "mirror 1 size 60 sum 0",
-            "mirror 2 size 130 sum 0",
-            "mirror -1 size 60 sum 56",
-            "mirror -2 size 1 sum 16",
-            "mirror -3 size 0 sum 0",
-            "drained",
-        ],
-    },
-    Row {
-        name: "pipes that are shut, open, and shut behind their end",
-        words: "replay --long",
-        input: &[
-            REGISTRY,
-            OFFER,
-            "app pipe 9\napp wl_data_offer@4278190080.receive(\"text/plain\", fd %9)\napp pipe 8\napp wl_data_offer@4278190080.receive(\"text/plain\", fd %8)\napp pipe 7\napp wl_data_offer@4278190080.receive(\"text/plain\", fd %7)\nsettle\n",
-            "comp put 1 0102\nsettle\napp shut 9\ncomp put 1 04\nsettle\ncomp put 2 ff\nsettle\n",
-            "comp put 3 0a\ncomp end 3\nsettle\napp shut 7\n",
-        ],
-        status: Status::Done,
-        wanted: &[
-            "application sent 7 received 2",
-            "pipe 1 bytes 2 sum 3 shut",
-            "pipe 2 bytes 1 sum 255 open",
-            "pipe 3 bytes 1 sum 10 ended",
-            "drained",
-        ],
-    },
-    Row {
-        name: "pipes of the compositor",
-        words: "replay --long",
-        input: &[
-            REGISTRY,
-            "app wl_registry@2.bind(1, \"wl_data_device_manager\" 3 new @3)\napp wl_data_device_manager@3.create_data_source(new @4)\napp wl_data_source@4.offer(\"text/plain\")\nsettle\n",
-            "comp pipe -5\ncomp wl_data_source@4.send(\"text/plain\", fd %-5)\ncomp pipe -4\ncomp wl_data_source@4.send(\"text/plain\", fd %-4)\nsettle\napp put -1 6869\napp end -1\n",
-        ],
-        status: Status::Done,
-        wanted: &[
-            "application sent 4 received 2",
-            "pipe -1 bytes 2 sum 209 ended",
-            "pipe -2 bytes 0 sum 0 open",
-            "drained",
-        ],
-    },
-    Row {
         name: "front written, then stopped",
         words: "replay --long",
         input: &[ONE, "take app 12\nconnect\nsend up 48\nstop\n"],
@@ -326,7 +207,12 @@ const ROWS: &[Row] = &[
         name: "message in three pieces",
         words: "replay --long",
         input: &[
-            "app hex 01\n# comment\n\napp hex 00000000000c\ntake app 1000000000\napp hex 0002000000\n",
+            "app hex 01\n\
+              # comment\n\
+              \n\
+              app hex 00000000000c\n\
+              take app 1000000000\n\
+              app hex 0002000000\n",
         ],
         status: Status::Done,
         wanted: &[
@@ -390,7 +276,13 @@ fn worked_rows(rt: HostRuntime) -> Result<(), Fail> {
 fn titled(alloc: Global, letters: u32) -> Result<Vec<u8>, AllocError> {
     let mut script = Vec::from_slice(
         alloc,
-        b"app wl_display@1.get_registry(new @2)\napp wl_registry@2.bind(1, \"wl_compositor\" 6 new @3)\napp wl_registry@2.bind(3, \"xdg_wm_base\" 5 new @4)\napp wl_compositor@3.create_surface(new @5)\napp xdg_wm_base@4.get_xdg_surface(new @6, @5)\napp xdg_surface@6.get_toplevel(new @7)\napp xdg_toplevel@7.set_title(\"",
+        b"app wl_display@1.get_registry(new @2)\n\
+          app wl_registry@2.bind(1, \"wl_compositor\" 6 new @3)\n\
+          app wl_registry@2.bind(3, \"xdg_wm_base\" 5 new @4)\n\
+          app wl_compositor@3.create_surface(new @5)\n\
+          app xdg_wm_base@4.get_xdg_surface(new @6, @5)\n\
+          app xdg_surface@6.get_toplevel(new @7)\n\
+          app xdg_toplevel@7.set_title(\"",
     )?;
     for _ in 0..letters {
         script.push(b'a')?;
